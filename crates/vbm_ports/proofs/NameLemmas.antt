@@ -1,0 +1,38 @@
+-- The lengths of names.
+use Rattle.std.proofs.Common.{◌≡◌, ℕ, ◌≤◌, Bool, true, false, List, length, refl, arith, inl, inr, ◌⊎◌, lit≤}
+use Rattle.std.specs.Prelude.{◌&&◌, ◌||◌, codes}
+use Rattle.std.proofs.lemmas.Bool.{leb-true, eqb-true}
+use Rattle.std.proofs.lemmas.Slice.Eq.{bytes_eq-Decides}
+use Rattle.vbm_ports.specs.Names.{is_medium_name, is_inner_name, IsStoreName}
+
+first_of_both : (a b : Bool) → (a && b) ≡ true → a ≡ true
+first_of_both true b both = refl
+first_of_both false b both = cc
+
+second_of_both : (a b : Bool) → (a && b) ≡ true → b ≡ true
+second_of_both true b both = both
+second_of_both false b both = cc
+
+either_of : (a b : Bool) → (a || b) ≡ true → (a ≡ true) ⊎ (b ≡ true)
+either_of true b some = inl refl
+either_of false b some = inr some
+
+medium_name_short : (name : List ℕ) → is_medium_name name ≡ true → length name ≤ 64
+unfolding is_medium_name
+medium_name_short name is =
+    leb-true _ _ (second_of_both _ _ (first_of_both _ _ (first_of_both _ _ (first_of_both _ _ is))))
+
+inner_name_short : (name : List ℕ) → is_inner_name name ≡ true → length name ≤ 64
+unfolding is_inner_name
+inner_name_short name is =
+    let size : length name ≡ 42 = eqb-true _ _ (first_of_both _ _ (first_of_both _ _ (first_of_both _ _ is))) in omega arith
+
+-- a name of a store has at most 64 bytes
+pub store_name_short : (name : List ℕ) → IsStoreName name → length name ≤ 64
+store_name_short name is = elim (either_of _ _ is) [
+  | inr log ↦ rw ((bytes_eq-Decides name (codes "intent.vbm")).0 log) (lit≤ tt)
+  | inl others ↦ elim (either_of _ _ others) [
+    | inr library ↦ rw ((bytes_eq-Decides name (codes "library.vbm")).0 library) (lit≤ tt)
+    | inl images ↦ elim (either_of _ _ images) [ inl medium ↦ medium_name_short name medium | inr inner ↦ inner_name_short name inner ]
+  ]
+]

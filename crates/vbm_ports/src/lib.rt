@@ -1,0 +1,29 @@
+//! What the program stands on outside: a disk, a source of input and a sink for output.
+//!
+//! The traits say what each call means, when it fails, and what a crash leaves. `FolderDisk`, `StdinSource` and
+//! `StdoutSink` are the real ones, which tell nothing of content; `MemDisk`, `MemSource` and `MemSink` are for tests.
+#![tactic(auto)]
+
+mod disk;
+mod folder;
+mod memory;
+mod names;
+mod sequence;
+mod standard;
+mod stream;
+
+pub use disk::Disk;
+pub use folder::FolderDisk;
+pub use memory::{MemDisk, MemSink, MemSource};
+pub use names::names_medium;
+pub use sequence::{Bytes, Names, Sequence, Text};
+pub use standard::{StdinSource, StdoutSink};
+pub use stream::{Sink, Source, put_all};
+
+/// There was no memory.
+#[derive(Clone, Copy, Debug, PartialEq, Eq)]
+pub struct NoMemory;
+
+/// A device failed.
+#[derive(Clone, Copy, Debug, PartialEq, Eq)]
+pub struct Failed;

@@ -1,0 +1,5 @@
+pub mod Peek
+pub mod Run
+pub use Rattle.vbm_ports.specs.Files
+pub use Rattle.vbm_ports.specs.Disk
+pub use Rattle.vbm_ports.specs.Counts

@@ -1,0 +1,7 @@
+pub mod Chains
+pub mod Distinct
+pub mod Images
+pub mod MarkLemmas
+pub mod Sectors
+pub mod TallyLemmas
+pub mod Words

@@ -1,0 +1,6 @@
+pub mod Image
+pub mod Sectors
+pub mod Chain
+pub mod Marks
+pub mod Tally
+pub mod Faults
