@@ -1,5 +1,5 @@
 -- A chain of one base image is that image.
-use Rattle.std.proofs.Common.{◌≡◌, ℕ, ◌/◌, ◌<◌, ◌≤◌, true, false, leb, List, [], ◌∷◌, replicate, refl, arith, inl, inr}
+use Rattle.std.proofs.Common.{◌≡◌, ℕ, ◌/◌, ◌<◌, true, false, leb, List, [], ◌∷◌, replicate, refl, arith, inl, inr}
 use Rattle.std.proofs.lemmas.Bool.{le-ltb, eqb-true, cases_Bool, lt-leb}
 use Rattle.vbm_header.specs.declared.Header.{Header}
 use Rattle.vbm_volume.specs.Image.{word_of, is_free, is_position}

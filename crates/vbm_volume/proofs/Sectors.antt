@@ -1,5 +1,5 @@
 -- A sector, from the word of its block and the data at its position.
-use Rattle.std.proofs.Common.{◌≡◌, ℕ, zero, suc, ◌+◌, ◌-◌, ◌*◌, ◌/◌, ◌%◌, ◌^◌, ◌<◌, ◌≤◌, Bool, true, false, ◌&&◌, leb, List, [], ◌∷◌, ◌++◌, length, take, drop, replicate, min, Some, Ok, refl, sym, ap, ◌∙◌, arith, inl, inr}
+use Rattle.std.proofs.Common.{◌≡◌, ℕ, zero, suc, ◌+◌, ◌-◌, ◌*◌, ◌/◌, ◌%◌, ◌^◌, ◌<◌, ◌≤◌, Bool, true, false, ◌&&◌, leb, List, [], ◌∷◌, ◌++◌, length, take, drop, replicate, min, Ok, refl, sym, ap, ◌∙◌, arith, inl, inr}
 use Rattle.std.specs.List.{filter, list_all}
 use Rattle.std.proofs.lemmas.Bool.{cases_lt, leb-true, lt-ltb, le-ltb}
 use Rattle.std.proofs.lemmas.List.{length-drop, length-take, length-take-le, append-nil, drop_all, take_at, take-append-drop}
@@ -10,8 +10,8 @@ use Rattle.vbm_header.specs.declared.Header.{Header}
 use Rattle.vbm_header.specs.Field.{number_at}
 use Rattle.vbm_header.proofs.Fields.{number_at-append, number_at-take, number_at-drop}
 use Rattle.vbm_header.proofs.Headers.{accepted, all_hold}
-use Rattle.vbm_volume.specs.Image.{image_of, map_conditions, positions, words_at, word_of, is_position}
-use Rattle.vbm_volume.specs.Sectors.{base_sector, sector_count}
+use Rattle.vbm_volume.specs.Image.{image_of, map_conditions, positions, words_at, is_position}
+use Rattle.vbm_volume.specs.Sectors.{base_sector}
 use Rattle.vbm_volume.proofs.Images.{image_of-ok}
 
 -- a field of what was read, whatever follows it

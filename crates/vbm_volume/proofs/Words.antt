@@ -1,10 +1,8 @@
 -- The words of a block map, read piece by piece.
-use Rattle.std.proofs.Common.{◌≡◌, ℕ, zero, suc, ◌+◌, ◌*◌, ◌-◌, ◌≤◌, ◌<◌, List, [], ◌∷◌, ◌++◌, length, take, drop, refl, sym, ap, ◌∙◌, arith, add-one, add-zero, min, Some}
-use Rattle.std.proofs.lemmas.List.{append_assoc, length-drop, length-take, append-nil, drop_all}
+use Rattle.std.proofs.Common.{◌≡◌, ℕ, zero, suc, ◌+◌, ◌*◌, ◌<◌, List, [], ◌∷◌, ◌++◌, refl, sym, ap, ◌∙◌, arith, add-one, add-zero}
+use Rattle.std.proofs.lemmas.List.{append_assoc, append-nil}
 use Rattle.std.proofs.lemmas.List.Elements.{filter-append}
 use Rattle.vbm_header.specs.Field.{number_at}
-use Rattle.vbm_header.proofs.Fields.{number_at-append, number_at-drop, number_at-take}
-use Rattle.vbm_ports.specs.Files.{Reads}
 use Rattle.std.specs.List.{filter}
 use Rattle.vbm_volume.specs.Image.{words_at, is_position}
 
@@ -31,16 +29,6 @@ unfolding words_at
 words_at-same xs ys x y zero same = refl
 words_at-same xs ys x y (suc n) same =
     rw (words_at-same xs ys x y n (λ k lt. same k (omega arith)), same n (omega arith)) refl
-
--- the positions among one word more of a piece
-pub positions-one_more : (ps piece : List ℕ) (i word : ℕ) → word ≡ number_at piece (4 * i) 4
-    → (ps ++ filter is_position (words_at piece 0 i)) ++ filter is_position (word ∷ []) ≡ ps ++ filter is_position (words_at piece 0 (i + 1))
-positions-one_more ps piece i word here =
-    let place : 4 * i ≡ 0 + 4 * i = omega arith in
-    append_assoc ps (filter is_position (words_at piece 0 i)) (filter is_position (word ∷ []))
-    ∙ ap (λ xs. ps ++ xs) (sym (filter-append is_position (words_at piece 0 i) (word ∷ [])))
-    ∙ ap (λ w. ps ++ filter is_position (words_at piece 0 i ++ w ∷ [])) (here ∙ ap (λ o. number_at piece o 4) place)
-    ∙ ap (λ ws. ps ++ filter is_position ws) (sym (words_at-one_more piece 0 i))
 
 -- the positions among more words
 pub positions-add : (ps f : List ℕ) (at m n : ℕ)

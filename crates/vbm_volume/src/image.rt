@@ -13,7 +13,7 @@ ghost use Rattle.vbm_volume.specs.Sectors.{base_sector, sector_count};
 use crate::Sector;
 use crate::fault::MapFault;
 use crate::map::read_map;
-use crate::tally::FIRST_OTHER;
+use crate::positions::FIRST_OTHER;
 use std::alloc::Global;
 use vbm_header::{BLOCK_LEN, HEADER_LEN, Header, SECTOR_LEN, SECTORS_OF_BLOCK, read_header};
 use vbm_ports::{Disk, Failed};

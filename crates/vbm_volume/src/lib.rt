@@ -5,6 +5,7 @@ mod fault;
 mod image;
 mod map;
 mod marks;
+mod positions;
 mod tally;
 
 pub use fault::MapFault;

@@ -11,7 +11,8 @@ ghost use Rattle.vbm_volume.specs.Image.{image_of, is_position, positions, words
 ghost use Rattle.vbm_volume.specs.Tally.{IsTally};
 
 use crate::fault::MapFault;
-use crate::tally::{Tally, word_at};
+use crate::positions::word_at;
+use crate::tally::Tally;
 use std::alloc::Global;
 use vbm_header::Header;
 use vbm_ports::{Disk, Failed, NoMemory};

@@ -1,19 +1,16 @@
-//! The three conditions on the positions of a block map, tested position by position.
+//! The three conditions on the positions of a block map, tested as its words come in.
 
-ghost use Rattle.std.specs.Prelude.{◌≡◌, ◌≤◌, ◌<◌, ◌+◌, ◌*◌, ◌^◌, ◌++◌, ℕ, [], ◌∷◌, List, not, nat_lt, nat_le, filter, length, vec_len, IfOk, OnOk, min};
-ghost use Rattle.std.specs.List.Sorted.{IsNonDecreasing};
-ghost use Rattle.vbm_header.specs.Field.{number_at};
+ghost use Rattle.std.specs.Prelude.{◌≡◌, ◌≤◌, ◌+◌, ◌*◌, ◌^◌, ◌++◌, ℕ, [], List, not, nat_lt, nat_le, length, vec_len, IfOk, OnOk};
+ghost use Rattle.std.specs.List.{list_all};
 ghost use Rattle.vbm_header.specs.Header.{first_that_fails};
-ghost use Rattle.vbm_volume.specs.Image.{is_position, is_distinct, words_at, map_conditions};
+ghost use Rattle.vbm_volume.specs.Image.{is_distinct, map_conditions};
+ghost use Rattle.vbm_volume.specs.Positions.{positions_in};
 
 use crate::marks::Marks;
-use byteorder::{ByteOrder, LittleEndian};
+use crate::positions::{end_of_words, has_twice, list_words, mark_words};
 use std::alloc::Global;
 use vbm_header::{BLOCK_LEN, BadImage, Header};
 use vbm_ports::NoMemory;
-
-/// The words of a block map below this one are positions.
-pub(crate) const FIRST_OTHER: u32 = 0xFFFF_FFFE;
 
 /// Positions below this one have a bit each, where the file has so many.
 const MOST_MARKS: u32 = 1 << 22;
@@ -28,30 +25,18 @@ struct Limits {
     low_end: u32,
 }
 
-impl Limits {
-    fn is_counted(&self, position: u32) -> bool
-        ensures { result ≡ nat_lt position self.now.allocated }
-    {
-        position < self.allocated
-    }
-
-    fn is_within(&self, position: u32) -> bool
-        ensures { result ≡ nat_le (self.now.off_data + (position + 1) * 2 ^ 20) self.now.file_len }
-    {
-        self.off_data as u64 + (position as u64 + 1) * BLOCK_LEN <= self.file_len
-    }
-}
-
 /// What was found out about the positions of a block map so far.
 #[derive(Drop)]
 pub(crate) struct Tally {
     limits: Limits,
+    // One past the greatest position, or 0.
+    end: u64,
     low: Marks,
     high: Vec<u32>,
-    are_counted: bool,
-    are_within: bool,
     // Whether a position that is marked stood twice.
     is_twice: bool,
+    ghost fits: { end ≤ 2 ^ 32 },
+    ghost most_marks: { limits.low_end ≤ 2 ^ 22 },
     ghost room: { limits.low_end ≤ 64 * vec_len low.words },
 }
 
@@ -73,53 +58,44 @@ impl Tally {
                 file_len,
                 low_end,
             },
+            end: 0,
             low: Marks::new(alloc, low_end)?,
             high: Vec::new(alloc),
-            are_counted: true,
-            are_within: true,
             is_twice: false,
         })
-    }
-
-    /// Adds a position.
-    fn add(&mut self, position: u32) -> Result<(), NoMemory>
-        ensures limits { self.new.limits ≡ self.old.limits }
-        ensures ok { OnOk result ((ps : List ℕ) → IsTally self.old ps → IsTally self.new (ps ++ position ∷ [])) }
-    {
-        self.are_counted &= self.limits.is_counted(position);
-        self.are_within &= self.limits.is_within(position);
-        if position < self.limits.low_end {
-            let is_new = self.low.insert(position);
-            self.is_twice |= !is_new;
-            return Ok(());
-        }
-        match self.high.push(position) {
-            Ok(()) => Ok(()),
-            Err(_) => Err(NoMemory),
-        }
-    }
-
-    /// Adds a word of a block map, if it is a position.
-    fn add_word(&mut self, word: u32) -> Result<(), NoMemory>
-        ensures limits { self.new.limits ≡ self.old.limits }
-        ensures ok { OnOk result ((ps : List ℕ) → IsTally self.old ps → IsTally self.new (ps ++ filter is_position (word ∷ []))) }
-    {
-        if word < FIRST_OTHER {
-            return self.add(word);
-        }
-        Ok(())
     }
 
     /// Adds the positions among the first `count` words of a piece of a block map.
     pub(crate) fn add_words(&mut self, piece: &[u8], count: usize) -> Result<(), NoMemory>
         requires { 4 * count ≤ length piece.now }
         ensures limits { self.new.limits ≡ self.old.limits }
-        ensures ok { OnOk result ((ps : List ℕ) → IsTally self.old ps → IsTally self.new (ps ++ filter is_position (words_at piece.now 0 count))) }
+        ensures ok { OnOk result ((ps : List ℕ) → IsTally self.old ps → IsTally self.new (ps ++ positions_in piece.now count)) }
     {
-        for i in 0..count {
-            self.add_word(word_at(piece, 4 * i))?;
+        let low_end = self.limits.low_end;
+        let end = end_of_words(piece, count);
+        self.end = self.end.max(end);
+        self.is_twice = mark_words(&mut self.low, low_end, self.is_twice, piece, count);
+        if end <= low_end as u64 {
+            return Ok(());
         }
-        Ok(())
+        list_words(&mut self.high, low_end, piece, count)
+    }
+
+    // Whether each position is below the count of the header.
+    fn are_counted(&self) -> bool
+        ensures { (ps : List ℕ) → IsTally self.now ps → result ≡ list_all (λ p. nat_lt p self.now.limits.allocated) ps }
+    {
+        self.end <= self.limits.allocated as u64
+    }
+
+    // Whether the data of each position lies in the file.
+    fn are_within(&self) -> bool
+        ensures { (ps : List ℕ) → IsTally self.now ps → result ≡ list_all (λ p. nat_le (self.now.limits.off_data + (p + 1) * 2 ^ 20) self.now.limits.file_len) ps }
+    {
+        if self.end == 0 {
+            return true;
+        }
+        self.limits.off_data as u64 + self.end * BLOCK_LEN <= self.limits.file_len
     }
 
     // Whether a position stood twice.
@@ -137,10 +113,10 @@ impl Tally {
         ensures { (ps : List ℕ) (h : Header) → IsTally self.old ps → h.allocated ≡ self.old.limits.allocated → h.off_data ≡ self.old.limits.off_data →
             result ≡ first_that_fails (map_conditions ps h self.old.limits.file_len) }
     {
-        if !self.are_counted {
+        if !self.are_counted() {
             return Some(BadImage::PositionCount);
         }
-        if !self.are_within {
+        if !self.are_within() {
             return Some(BadImage::PositionFile);
         }
         if self.has_twice() {
@@ -148,34 +124,4 @@ impl Tally {
         }
         None
     }
-}
-
-/// The word at a place of a piece of a block map.
-#[tactic(auto, unfolding(vbm_header::specs::Field::number_at))]
-pub(crate) fn word_at(piece: &[u8], at: usize) -> u32
-    requires { at + 4 ≤ length piece.now }
-    ensures { result ≡ number_at piece.now at 4 }
-{
-    LittleEndian::read_u32(&piece[at..])
-}
-
-// Whether a number stands twice in an ascending list.
-fn has_repeat(sorted: &[u32]) -> bool
-    requires { IsNonDecreasing sorted.now }
-    ensures { result ≡ not (is_distinct sorted.now) }
-{
-    for i in 1..sorted.len() {
-        if sorted[i - 1] == sorted[i] {
-            return true;
-        }
-    }
-    false
-}
-
-// Whether a number stands twice. It sorts the list.
-fn has_twice(numbers: &mut [u32]) -> bool
-    ensures { result ≡ not (is_distinct numbers.old) }
-{
-    numbers.sort_unstable();
-    has_repeat(numbers)
 }

@@ -1,16 +1,25 @@
-use Rattle.std.proofs.Common.{refl, subst, ◌∙◌}
-use Rattle.std.proofs.lemmas.List.{append-nil}
-use Rattle.vbm_volume.specs.Tally.{IsTally}
-use Rattle.vbm_volume.proofs.Words.{words_at-zero, positions-one_more}
+use Rattle.std.proofs.Common.{max, ap, sym, ◌∙◌, ◌++◌}
+use Rattle.std.proofs.lemmas.List.Elements.{filter-append}
+use Rattle.std.proofs.lemmas.Result.{on_ok_weaker}
+use Rattle.std.specs.List.{filter}
+use Rattle.vbm_volume.specs.Positions.{end_of, is_high, positions_in}
+use Rattle.vbm_volume.proofs.PositionLemmas.{end_of-append}
+use Rattle.vbm_volume.proofs.TallyLemmas.{filter-is_high-append}
 use Rattle.vbm_volume.proofs.tally.Tally.add_words.Goals as goal
 
-pub loop-i-init : goal.loop-i-init
-loop-i-init c = record { limits = refl; is = λ ps was. rw (words_at-zero, append-nil) was }
+pub returns-then-end-low_end-clause-ok : goal.returns-then-end-low_end-clause-ok
+returns-then-end-low_end-clause-ok c = λ ps was.
+    let more = positions_in c.args.piece.now c.args.count in record {
+      end = c.max-self.ensures ∙ ap (λ n. max n c.end_of_words-end.result) was.end ∙ ap (λ n. max (end_of ps) n) c.end_of_words-end.ensures.end ∙ sym (end_of-append ps more);
+      low = c.mark_words-self.ensures.marked ps was.low;
+      high = was.high ∙ sym (filter-is_high-append c.args.self.now.limits.low_end ps more (rw c.end_of_words-end.ensures.end at c.if-end-low_end.true));
+    }
 
-pub loop-i-preserved : goal.loop-i-preserved
-loop-i-preserved c = record {
-  limits = c.add_word.ensures.limits ∙ c.loop-i.invariant.limits;
-  is = λ ps was.
-      subst (IsTally c.add_word.new.self) (positions-one_more ps c.args.piece.now c.loop-i.i c.word_at.result c.word_at.ensures)
-      (c.in_ok-add_word.ensures.ok _ (c.loop-i.invariant.is ps was));
-}
+pub returns-clause-ok : goal.returns-clause-ok
+returns-clause-ok c = on_ok_weaker c.list_words.result (λ listed ps was.
+    let more = positions_in c.args.piece.now c.args.count in
+    let test = is_high c.args.self.now.limits.low_end in record {
+      end = c.max-self.ensures ∙ ap (λ n. max n c.end_of_words-end.result) was.end ∙ ap (λ n. max (end_of ps) n) c.end_of_words-end.ensures.end ∙ sym (end_of-append ps more);
+      low = c.mark_words-self.ensures.marked ps was.low;
+      high = listed ∙ ap (λ xs. xs ++ filter test more) was.high ∙ sym (filter-append test ps more);
+    }) c.list_words.ensures

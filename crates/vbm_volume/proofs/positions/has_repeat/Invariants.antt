@@ -1,5 +1,5 @@
 use Rattle.std.proofs.Common.{ℕ, ◌<◌, ◌+◌, get_or}
-use Rattle.vbm_volume.proofs.tally.has_repeat.Given as goal
+use Rattle.vbm_volume.proofs.positions.has_repeat.Given as goal
 
 -- the numbers up to i rise strictly
 abbrev pub invariant-loop-i : goal.invariant-loop-i

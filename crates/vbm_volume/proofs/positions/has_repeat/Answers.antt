@@ -1,6 +1,6 @@
 use Rattle.std.proofs.Common.{arith, not, ap, sym}
 use Rattle.vbm_volume.proofs.Distinct.{is_distinct-increasing, is_distinct-repeat}
-use Rattle.vbm_volume.proofs.tally.has_repeat.Goals as goal
+use Rattle.vbm_volume.proofs.positions.has_repeat.Goals as goal
 
 pub returns-then-sorted-i : goal.returns-then-sorted-i
 returns-then-sorted-i c =
