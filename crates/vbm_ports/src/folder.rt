@@ -122,8 +122,8 @@ pub struct FolderDisk<'a, R: Files> {
 impl<'a, R: Files> FolderDisk<'a, R> {
     /// The disk of a folder, given by its path in UTF-8. All memory that its calls need is taken here.
     pub fn new(rt: &'a R, alloc: Global, folder: Text) -> Result<FolderDisk<'a, R>, NoMemory>
-        ensures calls { IfOk result (λ disk. disk.calls ≡ 0) }
-        ensures faults { IfOk result (λ disk. disk.faults ≡ 0) }
+        ensures calls { IfOk result (λ disk. (⟦<FolderDisk<'a, R> as Disk>⟧.state disk).calls ≡ 0) }
+        ensures faults { IfOk result (λ disk. (⟦<FolderDisk<'a, R> as Disk>⟧.state disk).faults ≡ 0) }
     {
         Ok(FolderDisk {
             rt,

@@ -17,7 +17,7 @@ pub struct StdinSource<'a, R: Input> {
 impl<'a, R: Input> StdinSource<'a, R> {
     /// The standard input of the runtime.
     pub fn new(rt: &'a R) -> StdinSource<'a, R>
-        ensures { result.faults ≡ 0 }
+        ensures { ⟦<StdinSource<'a, R> as Source>⟧.faults result ≡ 0 }
     {
         StdinSource {
             rt,
@@ -55,7 +55,7 @@ pub struct StdoutSink<'a, R: Print> {
 impl<'a, R: Print> StdoutSink<'a, R> {
     /// The standard output of the runtime.
     pub fn new(rt: &'a R) -> StdoutSink<'a, R>
-        ensures { result.faults ≡ 0 }
+        ensures { ⟦<StdoutSink<'a, R> as Sink>⟧.faults result ≡ 0 }
     {
         StdoutSink { rt, faults: 0 }
     }
