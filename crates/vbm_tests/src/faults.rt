@@ -1,0 +1,46 @@
+//! A disk and a sink that fail.
+
+use crate::fixtures::{disk_of, expect, image, run_line, sector_line};
+use std::test::Fail;
+use vbm_ports::MemDisk;
+
+#[test]
+fn fails_with_its_disk(rt: HostRuntime) -> Result<(), Fail> {
+    let alloc = rt.alloc();
+    let file = image(alloc)?;
+    let sector = sector_line(alloc, "01")?;
+    // The length, the header, the block map and the sector; a fifth call is never made.
+    for (k, status, written, calls) in [
+        (0, 3, "", 1),
+        (1, 3, "", 2),
+        (2, 3, "", 3),
+        (3, 3, "", 4),
+        (4, 0, sector.as_str(), 4),
+    ] {
+        let mut disk = disk_of(&rt, file.as_slice())?;
+        disk.fail_call(k)?;
+        expect(&rt, &mut disk, "peek p.vdi 4096", status, written)?;
+        assert_eq!(rt; disk.calls(), calls, "call {k} fails");
+    }
+    Ok(())
+}
+
+#[test]
+fn fails_with_its_sink(rt: HostRuntime) -> Result<(), Fail> {
+    let alloc = rt.alloc();
+    let line = b"error 08 NoSuchFile\n";
+    let mut disk = MemDisk::new(alloc);
+    for limit in 0..line.len() {
+        let (status, sink) = run_line(alloc, &mut disk, b"peek p.vdi 0", Some(limit as u64))?;
+        assert_eq!(rt; status, 5, "limit {limit}");
+        assert_eq!(rt; sink.written(), &line[..limit]);
+    }
+    let line = sector_line(alloc, "02")?;
+    let mut disk = disk_of(&rt, image(alloc)?.as_slice())?;
+    for limit in [0, 1, 3, 4, 1026, 1027] {
+        let (status, sink) = run_line(alloc, &mut disk, b"peek p.vdi 4097", Some(limit as u64))?;
+        assert_eq!(rt; status, 5, "limit {limit}");
+        assert_eq!(rt; Some(sink.written()), line.as_bytes().get(..limit));
+    }
+    expect(&rt, &mut disk, "peek p.vdi 4097", 0, line.as_str())
+}
