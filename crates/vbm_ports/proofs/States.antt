@@ -1,5 +1,5 @@
 -- How the state of a disk goes on over several calls.
-use Rattle.std.proofs.Common.{◌≡◌, ◌∙◌, ◌≤◌, ℕ, refl, arith, inl, inr, ⊎_elim, ◌⊎◌}
+use Rattle.std.proofs.Common.{◌∙◌, ◌≤◌, ℕ, refl, arith, inl, inr, ⊎_elim}
 use Rattle.vbm_ports.specs.Files.{Files}
 use Rattle.vbm_ports.specs.Disk.{DiskState, Passes, OnlyReads}
 

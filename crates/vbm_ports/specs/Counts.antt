@@ -1,5 +1,5 @@
 -- Counts that stay at the last value of a `u64`.
-use Rattle.std.specs.Prelude.{◌≡◌, ℕ, ◌+◌, ◌-◌, ◌^◌, ◌≤◌, min}
+use Rattle.std.specs.Prelude.{ℕ, ◌+◌, ◌-◌, ◌^◌, ◌≤◌, min}
 
 -- one more, or the last value
 abbrev pub counted : ℕ → ℕ

@@ -1,5 +1,6 @@
 -- What a disk means: the files that reads give, and what a crash may leave of them.
 use Rattle.std.specs.Prelude.{◌≡◌, ℕ, ◌^◌, ◌≤◌, ◌⊎◌, List, length}
+use Rattle.vbm_ports.specs.Counts.{counted}
 use Rattle.vbm_ports.specs.Files.{Files, bytes_of}
 
 -- What a disk is at one moment. An image is what a crash leaves of the files.
@@ -22,6 +23,11 @@ pub record Passes (old new : DiskState) (P : Files → Type 0) : Type 0 where
   pub later : old.moment ≤ new.moment
   pub only : (t : ℕ) (image : Files) → t ≤ old.moment → new.left_since t image → old.left_since t image ⊎ P image
   pub keeps : (t : ℕ) (image : Files) → t ≤ old.moment → old.left_since t image → new.left_since t image
+
+-- one call was made, and no fault was taken back
+pub record CountsCall (old new : DiskState) : Type 0 where
+  pub calls : new.calls ≡ counted old.calls
+  pub faults : old.faults ≤ new.faults
 
 -- Nothing but reading was done: no file changed, where the disk tells its files, and a crash leaves nothing new.
 pub record OnlyReads (tells : Type 0) (old new : DiskState) : Type 0 where

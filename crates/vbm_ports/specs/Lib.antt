@@ -1,7 +1,6 @@
 pub mod Files
 pub mod Names
 pub mod Counts
+pub mod Crash
 pub mod Disk
 pub mod Stream
-pub mod Memory
-pub mod MemDisk

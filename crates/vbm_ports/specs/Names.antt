@@ -26,13 +26,13 @@ is_hyphenated text =
     && list_all is_lower_hex (take 4 (drop 9 text)) && slice_index text 13 == 45
     && list_all is_lower_hex (take 4 (drop 14 text)) && slice_index text 18 == 45
     && list_all is_lower_hex (take 4 (drop 19 text)) && slice_index text 23 == 45
-    && list_all is_lower_hex (drop 24 text)
+    && list_all is_lower_hex (take 12 (drop 24 text))
 
 -- The name of an inner image: `{`, its identifier, and `}.vdi`.
 unfoldable pub is_inner_name : List ℕ → Bool
 is_inner_name name =
-    length name == 42 && starts_with nat_eq name (codes "{") && is_hyphenated (take 36 (drop 1 name))
-    && ends_with nat_eq name (codes "}.vdi")
+    length name == 42 && starts_with nat_eq name (codes "{") && ends_with nat_eq name (codes "}.vdi")
+    && is_hyphenated (take 36 (drop 1 name))
 
 -- A name that a file of a store may have: a medium's, an inner image's, the library's or the log's.
 abbrev pub is_store_name : List ℕ → Bool

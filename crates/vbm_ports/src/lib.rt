@@ -1,12 +1,11 @@
 //! What the program stands on outside: a disk, a source of input and a sink for output.
 //!
 //! The traits say what each call means, when it fails, and what a crash leaves. `FolderDisk`, `StdinSource` and
-//! `StdoutSink` are the real ones, which tell nothing of content; `MemDisk`, `MemSource` and `MemSink` are for tests.
+//! `StdoutSink` are the real ones, which tell nothing of content.
 #![tactic(auto)]
 
 mod disk;
 mod folder;
-mod memory;
 mod names;
 mod sequence;
 mod standard;
@@ -14,8 +13,7 @@ mod stream;
 
 pub use disk::Disk;
 pub use folder::FolderDisk;
-pub use memory::{MemDisk, MemSink, MemSource};
-pub use names::names_medium;
+pub use names::{names_medium, names_store_file};
 pub use sequence::{Bytes, Names, Sequence, Text};
 pub use standard::{StdinSource, StdoutSink};
 pub use stream::{Sink, Source, put_all};

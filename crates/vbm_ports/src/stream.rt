@@ -51,7 +51,8 @@ pub trait Sink {
 /// Writes all bytes. A sink that fails has got a proper prefix of them.
 pub fn put_all<K: Sink>(sink: &mut K, bytes: &[u8]) -> Result<(), Failed>
     ensures ok { K.tells → OnOk result (K.written sink.new ≡ K.written sink.old ++ bytes.now) }
-    ensures err { K.tells → OnErr result ((front : List ℕ) × IsProperPrefix front bytes.now × (K.written sink.new ≡ K.written sink.old ++ front)) }
+    ensures err { K.tells → OnErr result ((front : List ℕ) × IsProperPrefix front bytes.now
+        × (K.written sink.new ≡ K.written sink.old ++ front)) }
     ensures faults { K.faults sink.old ≤ K.faults sink.new }
     ensures cause { OnErr result (Rose (K.faults sink.old) (K.faults sink.new)) }
 {

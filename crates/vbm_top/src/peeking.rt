@@ -66,7 +66,8 @@ pub(crate) fn peek_file<D: Disk>(alloc: Global, disk: &mut D, name: &[u8], lba: 
 fn peek_present<D: Disk>(alloc: Global, disk: &mut D, name: &[u8], len: u64, lba: u64) -> PeekResult
     requires name { IsTrue (is_medium_name name.now) }
     requires told { D.tells → (f : List ℕ) → (D.state disk.old).files name.now ≡ Some f → length f ≡ len }
-    ensures exact { D.tells → (f : List ℕ) → (D.state disk.old).files name.now ≡ Some f → Tells result (peeked (Some f ∷ []) lba) }
+    ensures exact { D.tells → (f : List ℕ) → (D.state disk.old).files name.now ≡ Some f
+        → Tells result (peeked (Some f ∷ []) lba) }
     ensures cause { result ≡ PeekResult.Failed → Rose (D.state disk.old).faults (D.state disk.new).faults }
     ensures reads { OnlyReads D.tells (D.state disk.old) (D.state disk.new) }
 {

@@ -50,7 +50,8 @@ pub fn run<D: Disk, S: Source, K: Sink>(
 
 // Writes the line of an answer, and gives the status.
 fn write_answer<K: Sink>(alloc: Global, sink: &mut K, found: &PeekResult) -> u8
-    ensures line { (answer : Answer) → Tells found.now answer → Ends K.tells answer result (K.written sink.old) (K.written sink.new) }
+    ensures line { (answer : Answer) → Tells found.now answer
+        → Ends K.tells answer result (K.written sink.old) (K.written sink.new) }
     ensures not_two { result ≢ 2 }
     ensures disk { result ≡ 3 → found.now ≡ PeekResult.Failed }
     ensures sink { result ≡ 5 → Rose (K.faults sink.old) (K.faults sink.new) }

@@ -7,7 +7,8 @@ use vbm_ports::{Text, names_medium};
 
 /// The number below 2^64 that a word spells in decimal, without leading zeros.
 fn decimal(word: &[u8]) -> Option<u64>
-    ensures { MatchOption result ((n : ℕ) → n < 2 ^ 64 → word.now ≡ decimal n → ⊥) (λ n. word.now ≡ decimal n) }
+    ensures { MatchOption result ((n : ℕ) → n < 2 ^ 64 → word.now ≡ decimal n
+        → ⊥) (λ n. word.now ≡ decimal n) }
 {
     if word.is_empty() {
         return None;

@@ -28,10 +28,15 @@ pub fn read_image<D: Disk>(
     block: u64,
 ) -> Result<(Header, u32), MapFault>
     requires name { IsStoreName name.now }
-    requires told { D.tells → (f : List ℕ) → (D.state disk.old).files name.now ≡ Some f → length f ≡ file_len }
-    ensures exact { D.tells → (f : List ℕ) → (D.state disk.old).files name.now ≡ Some f → Answers result (λ read. read.0) (image_of f) }
-    ensures word { D.tells → IfOk result (λ read. (f : List ℕ) → (D.state disk.old).files name.now ≡ Some f → block < read.0.blocks → read.1 ≡ word_of f read.0 block) }
-    ensures cause { result ≡ Err MapFault.Failed → Rose (D.state disk.old).faults (D.state disk.new).faults }
+    requires told { D.tells → (f : List ℕ) → (D.state disk.old).files name.now ≡ Some f
+        → length f ≡ file_len }
+    ensures exact { D.tells → (f : List ℕ) → (D.state disk.old).files name.now ≡ Some f
+        → Answers result (λ read. read.0) (image_of f) }
+    ensures word { D.tells → IfOk result (λ read. (f : List ℕ) → (D.state disk.old).files name.now ≡ Some f
+        → block < read.0.blocks → read.1 ≡ word_of f read.0 block) }
+    ensures outside { IfOk result (λ read. read.0.blocks ≤ block → read.1 ≡ 0xFFFFFFFF) }
+    ensures cause { result ≡ Err MapFault.Failed
+        → Rose (D.state disk.old).faults (D.state disk.new).faults }
     ensures reads { OnlyReads D.tells (D.state disk.old) (D.state disk.new) }
 {
     let header = read_front(disk, name, file_len)?;
@@ -42,9 +47,12 @@ pub fn read_image<D: Disk>(
 // The header of a file by itself.
 fn read_front<D: Disk>(disk: &mut D, name: &[u8], file_len: u64) -> Result<Header, MapFault>
     requires name { IsStoreName name.now }
-    requires told { D.tells → (f : List ℕ) → (D.state disk.old).files name.now ≡ Some f → length f ≡ file_len }
-    ensures exact { D.tells → (f : List ℕ) → (D.state disk.old).files name.now ≡ Some f → Answers result (λ header. header) (header_of f file_len) }
-    ensures cause { result ≡ Err MapFault.Failed → Rose (D.state disk.old).faults (D.state disk.new).faults }
+    requires told { D.tells → (f : List ℕ) → (D.state disk.old).files name.now ≡ Some f
+        → length f ≡ file_len }
+    ensures exact { D.tells → (f : List ℕ) → (D.state disk.old).files name.now ≡ Some f
+        → Answers result (λ header. header) (header_of f file_len) }
+    ensures cause { result ≡ Err MapFault.Failed
+        → Rose (D.state disk.old).faults (D.state disk.new).faults }
     ensures reads { OnlyReads D.tells (D.state disk.old) (D.state disk.new) }
 {
     let mut front = [0; HEADER_LEN];
@@ -66,7 +74,8 @@ pub fn read_sector<D: Disk>(
     lba: u64,
 ) -> Result<Sector, Failed>
     requires { IsStoreName name.now }
-    ensures ok { D.tells → IfOk result (λ sector. (f : List ℕ) → (D.state disk.old).files name.now ≡ Some f → image_of f ≡ Ok header.now →
+    ensures ok { D.tells → IfOk result (λ sector. (f : List ℕ) → (D.state disk.old).files name.now ≡ Some f
+        → image_of f ≡ Ok header.now →
         lba < sector_count header.now → word ≡ word_of f header.now (lba / 2048) → sector ≡ base_sector f header.now lba) }
     ensures cause { OnErr result (Rose (D.state disk.old).faults (D.state disk.new).faults) }
     ensures reads { OnlyReads D.tells (D.state disk.old) (D.state disk.new) }

@@ -33,9 +33,12 @@ pub fn check_map<D: Disk>(
     file_len: u64,
 ) -> Result<(), MapFault>
     requires name { IsStoreName name.now }
-    requires told { D.tells → (f : List ℕ) → (D.state disk.old).files name.now ≡ Some f → HasHeader f header.now file_len }
-    ensures exact { D.tells → (f : List ℕ) → (D.state disk.old).files name.now ≡ Some f → Answers result (λ _. header.now) (image_of f) }
-    ensures cause { result ≡ Err MapFault.Failed → Rose (D.state disk.old).faults (D.state disk.new).faults }
+    requires told { D.tells → (f : List ℕ) → (D.state disk.old).files name.now ≡ Some f
+        → HasHeader f header.now file_len }
+    ensures exact { D.tells → (f : List ℕ) → (D.state disk.old).files name.now ≡ Some f
+        → Answers result (λ _. header.now) (image_of f) }
+    ensures cause { result ≡ Err MapFault.Failed
+        → Rose (D.state disk.old).faults (D.state disk.new).faults }
     ensures reads { OnlyReads D.tells (D.state disk.old) (D.state disk.new) }
 {
     read_map(alloc, disk, name, header, file_len, 0)?;
@@ -53,10 +56,15 @@ pub fn read_map<D: Disk>(
     block: u64,
 ) -> Result<u32, MapFault>
     requires name { IsStoreName name.now }
-    requires told { D.tells → (f : List ℕ) → (D.state disk.old).files name.now ≡ Some f → HasHeader f header.now file_len }
-    ensures exact { D.tells → (f : List ℕ) → (D.state disk.old).files name.now ≡ Some f → Answers result (λ _. header.now) (image_of f) }
-    ensures word { D.tells → IfOk result (λ word. (f : List ℕ) → (D.state disk.old).files name.now ≡ Some f → block < header.now.blocks → word ≡ word_of f header.now block) }
-    ensures cause { result ≡ Err MapFault.Failed → Rose (D.state disk.old).faults (D.state disk.new).faults }
+    requires told { D.tells → (f : List ℕ) → (D.state disk.old).files name.now ≡ Some f
+        → HasHeader f header.now file_len }
+    ensures exact { D.tells → (f : List ℕ) → (D.state disk.old).files name.now ≡ Some f
+        → Answers result (λ _. header.now) (image_of f) }
+    ensures word { D.tells → IfOk result (λ word. (f : List ℕ) → (D.state disk.old).files name.now ≡ Some f
+        → block < header.now.blocks → word ≡ word_of f header.now block) }
+    ensures outside { IfOk result (λ word. header.now.blocks ≤ block → word ≡ 0xFFFFFFFF) }
+    ensures cause { result ≡ Err MapFault.Failed
+        → Rose (D.state disk.old).faults (D.state disk.new).faults }
     ensures reads { OnlyReads D.tells (D.state disk.old) (D.state disk.new) }
 {
     let mut tally = Tally::new(alloc, header, file_len)?;
@@ -86,12 +94,16 @@ fn scan<D: Disk>(
 ) -> Result<u32, MapFault>
     requires name { IsStoreName name.now }
     requires room { 4 * min header.now.blocks 65536 ≤ length piece.old }
-    ensures tally { D.tells → OnOk result ((f ps : List ℕ) → (D.state disk.old).files name.now ≡ Some f → header.now.off_blocks + 4 * header.now.blocks ≤ length f →
+    ensures tally { D.tells → OnOk result ((f ps : List ℕ) → (D.state disk.old).files name.now ≡ Some f
+        → header.now.off_blocks + 4 * header.now.blocks ≤ length f →
         IsTally tally.old ps → IsTally tally.new (ps ++ positions f header.now)) }
     ensures limits { tally.new.limits ≡ tally.old.limits }
-    ensures word { D.tells → IfOk result (λ word. (f : List ℕ) → (D.state disk.old).files name.now ≡ Some f → header.now.off_blocks + 4 * header.now.blocks ≤ length f →
+    ensures word { D.tells → IfOk result (λ word. (f : List ℕ) → (D.state disk.old).files name.now ≡ Some f
+        → header.now.off_blocks + 4 * header.now.blocks ≤ length f →
         block < header.now.blocks → word ≡ word_of f header.now block) }
-    ensures err { IfErr result (λ e. (e ≡ MapFault.NoMemory) ⊎ ((e ≡ MapFault.Failed) × Rose (D.state disk.old).faults (D.state disk.new).faults)) }
+    ensures outside { IfOk result (λ word. header.now.blocks ≤ block → word ≡ 0xFFFFFFFF) }
+    ensures err { IfErr result (λ e. (e ≡ MapFault.NoMemory) ⊎ ((e ≡ MapFault.Failed)
+        × Rose (D.state disk.old).faults (D.state disk.new).faults)) }
     ensures reads { OnlyReads D.tells (D.state disk.old) (D.state disk.new) }
 {
     let mut word = FREE;
@@ -117,12 +129,15 @@ fn add_piece<D: Disk>(
 ) -> Result<(), MapFault>
     requires name { IsStoreName name.now }
     requires room { 4 * count ≤ length piece.old }
-    ensures tally { D.tells → OnOk result ((f ps : List ℕ) → (D.state disk.old).files name.now ≡ Some f → at + 4 * count ≤ length f →
+    ensures tally { D.tells → OnOk result ((f ps : List ℕ) → (D.state disk.old).files name.now ≡ Some f
+        → at + 4 * count ≤ length f →
         IsTally tally.old ps → IsTally tally.new (ps ++ filter is_position (words_at f at count))) }
     ensures limits { tally.new.limits ≡ tally.old.limits }
-    ensures fields { D.tells → OnOk result ((f : List ℕ) (o w : ℕ) → (D.state disk.old).files name.now ≡ Some f → o + w ≤ length piece.old → at + o + w ≤ length f →
+    ensures fields { D.tells → OnOk result ((f : List ℕ) (o w : ℕ)
+        → (D.state disk.old).files name.now ≡ Some f → o + w ≤ length piece.old → at + o + w ≤ length f →
         number_at piece.new o w ≡ number_at f (at + o) w) }
-    ensures err { IfErr result (λ e. (e ≡ MapFault.NoMemory) ⊎ ((e ≡ MapFault.Failed) × Rose (D.state disk.old).faults (D.state disk.new).faults)) }
+    ensures err { IfErr result (λ e. (e ≡ MapFault.NoMemory) ⊎ ((e ≡ MapFault.Failed)
+        × Rose (D.state disk.old).faults (D.state disk.new).faults)) }
     ensures reads { OnlyReads D.tells (D.state disk.old) (D.state disk.new) }
 {
     read_words(disk, name, at, piece)?;
@@ -133,7 +148,8 @@ fn add_piece<D: Disk>(
 // Reads a piece of a block map. Words that the disk does not give count as free.
 fn read_words<D: Disk>(disk: &mut D, name: &[u8], at: u64, piece: &mut [u8]) -> Result<(), Failed>
     requires { IsStoreName name.now }
-    ensures fields { D.tells → OnOk result ((f : List ℕ) (o w : ℕ) → (D.state disk.old).files name.now ≡ Some f → o + w ≤ length piece.old → at + o + w ≤ length f →
+    ensures fields { D.tells → OnOk result ((f : List ℕ) (o w : ℕ)
+        → (D.state disk.old).files name.now ≡ Some f → o + w ≤ length piece.old → at + o + w ≤ length f →
         number_at piece.new o w ≡ number_at f (at + o) w) }
     ensures cause { OnErr result (Rose (D.state disk.old).faults (D.state disk.new).faults) }
     ensures reads { OnlyReads D.tells (D.state disk.old) (D.state disk.new) }
@@ -154,7 +170,8 @@ fn free_from(piece: &mut [u8], n: usize)
 // The word of a block that is among the `count` words of a piece, the first of which is that of block `first`; else another.
 fn word_or(piece: &[u8], first: u32, count: u32, block: u64, other: u32) -> u32
     requires { 4 * count ≤ length piece.now }
-    ensures here { first ≤ block → block < first + count → result ≡ number_at piece.now (4 * (block - first)) 4 }
+    ensures here { first ≤ block → block < first + count
+        → result ≡ number_at piece.now (4 * (block - first)) 4 }
     ensures elsewhere { (block < first) ⊎ (first + count ≤ block) → result ≡ other }
 {
     let first = first as u64;

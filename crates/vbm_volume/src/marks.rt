@@ -29,7 +29,8 @@ impl Marks {
         requires { n < 64 * vec_len self.old.words }
         ensures fresh { result ≡ not (is_marked self.old.words.items n) }
         ensures here { is_marked self.new.words.items n ≡ true }
-        ensures others { (m : ℕ) → m ≢ n → is_marked self.new.words.items m ≡ is_marked self.old.words.items m }
+        ensures others { (m : ℕ) → m ≢ n
+            → is_marked self.new.words.items m ≡ is_marked self.old.words.items m }
         ensures room { vec_len self.new.words ≡ vec_len self.old.words }
     {
         let word = &mut self.words[n as usize / 64];

@@ -57,7 +57,8 @@ pub(crate) fn mark_words(
     requires words { 4 * count ≤ length piece.now }
     requires most { low_end ≤ 2 ^ 22 }
     requires room { low_end ≤ 64 * vec_len low.old.words }
-    ensures marked { (ps : List ℕ) → AreMarked low_end low.old.words.items is_twice ps → AreMarked low_end low.new.words.items result (ps ++ positions_in piece.now count) }
+    ensures marked { (ps : List ℕ) → AreMarked low_end low.old.words.items is_twice ps
+        → AreMarked low_end low.new.words.items result (ps ++ positions_in piece.now count) }
     ensures room { vec_len low.new.words ≡ vec_len low.old.words }
 {
     let mut twice = is_twice;
@@ -70,7 +71,8 @@ pub(crate) fn mark_words(
 fn mark(low: &mut Marks, low_end: u32, is_twice: bool, word: u32) -> bool
     requires most { low_end ≤ 2 ^ 22 }
     requires room { low_end ≤ 64 * vec_len low.old.words }
-    ensures marked { (ps : List ℕ) → AreMarked low_end low.old.words.items is_twice ps → AreMarked low_end low.new.words.items result (ps ++ filter is_position (word ∷ [])) }
+    ensures marked { (ps : List ℕ) → AreMarked low_end low.old.words.items is_twice ps
+        → AreMarked low_end low.new.words.items result (ps ++ filter is_position (word ∷ [])) }
     ensures room { vec_len low.new.words ≡ vec_len low.old.words }
 {
     if word < low_end {

@@ -69,7 +69,8 @@ impl Tally {
     pub(crate) fn add_words(&mut self, piece: &[u8], count: usize) -> Result<(), NoMemory>
         requires { 4 * count ≤ length piece.now }
         ensures limits { self.new.limits ≡ self.old.limits }
-        ensures ok { OnOk result ((ps : List ℕ) → IsTally self.old ps → IsTally self.new (ps ++ positions_in piece.now count)) }
+        ensures ok { OnOk result ((ps : List ℕ) → IsTally self.old ps
+            → IsTally self.new (ps ++ positions_in piece.now count)) }
     {
         let low_end = self.limits.low_end;
         let end = end_of_words(piece, count);
@@ -83,14 +84,16 @@ impl Tally {
 
     // Whether each position is below the count of the header.
     fn are_counted(&self) -> bool
-        ensures { (ps : List ℕ) → IsTally self.now ps → result ≡ list_all (λ p. nat_lt p self.now.limits.allocated) ps }
+        ensures { (ps : List ℕ) → IsTally self.now ps
+            → result ≡ list_all (λ p. nat_lt p self.now.limits.allocated) ps }
     {
         self.end <= self.limits.allocated as u64
     }
 
     // Whether the data of each position lies in the file.
     fn are_within(&self) -> bool
-        ensures { (ps : List ℕ) → IsTally self.now ps → result ≡ list_all (λ p. nat_le (self.now.limits.off_data + (p + 1) * 2 ^ 20) self.now.limits.file_len) ps }
+        ensures { (ps : List ℕ) → IsTally self.now ps
+            → result ≡ list_all (λ p. nat_le (self.now.limits.off_data + (p + 1) * 2 ^ 20) self.now.limits.file_len) ps }
     {
         if self.end == 0 {
             return true;
@@ -110,7 +113,8 @@ impl Tally {
 
     /// The first condition on the positions that fails.
     pub(crate) fn fault(&mut self) -> Option<BadImage>
-        ensures { (ps : List ℕ) (h : Header) → IsTally self.old ps → h.allocated ≡ self.old.limits.allocated → h.off_data ≡ self.old.limits.off_data →
+        ensures { (ps : List ℕ) (h : Header) → IsTally self.old ps → h.allocated ≡ self.old.limits.allocated
+            → h.off_data ≡ self.old.limits.off_data →
             result ≡ first_that_fails (map_conditions ps h self.old.limits.file_len) }
     {
         if !self.are_counted() {

@@ -13,6 +13,7 @@ loop-done-init g c = record {
   tally = λ told f ps is fits was. rw (words_at-zero, append-nil) was;
   limits = refl;
   word = λ told f is fits below. absurd (omega arith);
+  outside = λ past. refl;
   reads = OnlyReads-refl g.D.Disk.tells (g.D.Disk.state c.args.disk.now);
 }
 
@@ -33,5 +34,6 @@ loop-done-preserved g c = record {
         (ap (λ files. files c.args.name.now) (c.loop-done.invariant.reads.files told) ∙ is) (omega (arith, c.min-count.ensures)) (omega (arith, c.min-count.ensures))
         ∙ ap (λ o. number_at f o 4) place
   ];
+  outside = λ past. c.word_or-word.ensures.elsewhere (inr (omega (arith, past, c.min-count.ensures))) ∙ c.loop-done.invariant.outside past;
   reads = OnlyReads-trans _ _ _ _ c.loop-done.invariant.reads c.add_piece.ensures.reads;
 }

@@ -1,9 +1,5 @@
-use Rattle.vbm_ports.proofs.NameLemmas.{store_name_short}
 use Rattle.vbm_ports.proofs.States.{OnlyReads-counts}
 use Rattle.vbm_ports.proofs.folder.FolderDiskDisk.length.Goals as goal
-
-pub length-outcome-requires : goal.length-outcome-requires
-length-outcome-requires g c = store_name_short c.args.name.now c.requires
 
 pub returns-clause-reads : goal.returns-clause-reads
 returns-clause-reads g c = OnlyReads-counts ⊥ _ _ _ c.counted.ensures.more.0 c.counted.ensures.more.1
