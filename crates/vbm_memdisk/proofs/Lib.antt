@@ -1,0 +1,6 @@
+pub mod FileLists
+pub mod Outcomes
+pub mod ByteLists
+pub mod Crashes
+pub mod Replays
+pub mod Moments
