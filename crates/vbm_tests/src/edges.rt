@@ -46,6 +46,39 @@ fn reads_a_folder(rt: HostRuntime) -> Result<(), Fail> {
     Ok(())
 }
 
+#[test]
+fn writes_a_folder(rt: HostRuntime) -> Result<(), Fail> {
+    let alloc = rt.alloc();
+    let folder = "vbm_tests.folder_to_write";
+    let _ = fs::remove_dir_all(&rt, folder);
+    fs::create_dir(&rt, folder)?;
+    fs::create_dir(&rt, "vbm_tests.folder_to_write/sub.vdi")?;
+    let mut disk = FolderDisk::new(&rt, alloc, Text::new(alloc, folder.as_bytes())?)?;
+    assert!(rt; names_medium(b"sub.vdi") && names_medium(b"abc.vdi"));
+    assert_eq!(rt; disk.write(b"sub.vdi", 0, b"x"), Err(Failed));
+    assert_eq!(rt; disk.cut(b"sub.vdi", 0), Err(Failed));
+    assert_eq!(rt; disk.remove(b"sub.vdi"), Err(Failed));
+    assert_eq!(rt; disk.cut(b"abc.vdi", 0), Ok(()));
+    assert_eq!(rt; disk.remove(b"abc.vdi"), Ok(()));
+    assert_eq!(rt; disk.length(b"abc.vdi"), Ok(None));
+    assert_eq!(rt; disk.write(b"abc.vdi", 2, b"cdefgh"), Ok(()));
+    assert_eq!(rt; disk.write(b"abc.vdi", 0, b"ab"), Ok(()));
+    assert_eq!(rt; disk.sync(), Ok(()));
+    assert_eq!(rt; disk.cut(b"abc.vdi", 6), Ok(()));
+    assert_eq!(rt; disk.cut(b"abc.vdi", 7), Ok(()));
+    let mut out = *b"........";
+    assert_eq!(rt; disk.read(b"abc.vdi", 0, &mut out), Ok(6));
+    assert_eq!(rt; &out, b"abcdef..");
+    assert_eq!(rt; disk.write(b"abc.vdi", 7, b"z"), Ok(()));
+    assert_eq!(rt; disk.read(b"abc.vdi", 4, &mut out), Ok(4));
+    assert_eq!(rt; &out, b"ef\0zef..");
+    assert_eq!(rt; disk.remove(b"abc.vdi"), Ok(()));
+    assert_eq!(rt; disk.sync(), Ok(()));
+    assert_eq!(rt; disk.length(b"abc.vdi"), Ok(None));
+    fs::remove_dir_all(&rt, folder)?;
+    Ok(())
+}
+
 // Reads `abc.vdi` at its places, and what is no file.
 fn reads_places<D: Disk>(rt: &impl Abort, disk: &mut D) {
     for (name, len) in [

@@ -2,7 +2,7 @@
 
 use crate::fixtures::{disk_of, expect, image, run_line, sector_line};
 use std::test::Fail;
-use vbm_ports::MemDisk;
+use vbm_memdisk::MemDisk;
 
 #[test]
 fn fails_with_its_disk(rt: HostRuntime) -> Result<(), Fail> {

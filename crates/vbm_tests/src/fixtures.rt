@@ -4,7 +4,8 @@ use std::alloc::{AllocError, Global};
 use std::process::Abort;
 use std::test::Fail;
 use uuid::Uuid;
-use vbm_ports::{Bytes, MemDisk, MemSink, MemSource, Text};
+use vbm_memdisk::{MemDisk, MemSink, MemSource};
+use vbm_ports::{Bytes, Text};
 use vbm_top::run;
 
 /// The length of the image's file, in bytes.

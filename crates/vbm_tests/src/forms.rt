@@ -2,7 +2,7 @@
 
 use crate::fixtures::run_line;
 use std::test::Fail;
-use vbm_ports::MemDisk;
+use vbm_memdisk::MemDisk;
 
 /// Lines of no form, and bytes that need not be text.
 static NO_FORM: [&[u8]; 18] = [

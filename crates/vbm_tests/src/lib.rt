@@ -12,6 +12,8 @@ mod forms;
 #[cfg(test)]
 mod headers;
 #[cfg(test)]
+mod histories;
+#[cfg(test)]
 mod maps;
 #[cfg(test)]
 mod ports;

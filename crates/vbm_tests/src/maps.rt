@@ -67,6 +67,22 @@ impl Disk for MapDisk<'_> {
         Ok(count)
     }
 
+    fn write(&mut self, _name: &[u8], _at: u64, _bytes: &[u8]) -> Result<(), Failed> {
+        Err(Failed)
+    }
+
+    fn cut(&mut self, _name: &[u8], _len: u64) -> Result<(), Failed> {
+        Err(Failed)
+    }
+
+    fn remove(&mut self, _name: &[u8]) -> Result<(), Failed> {
+        Err(Failed)
+    }
+
+    fn sync(&mut self) -> Result<(), Failed> {
+        Err(Failed)
+    }
+
     ghost coherent = { λ disk. record {
       read_is_image = λ told. absurd told;
       counts_now = λ t image le now. absurd now;

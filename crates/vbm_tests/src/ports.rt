@@ -2,9 +2,9 @@
 
 use crate::fixtures::{image, sector_line};
 use std::test::Fail;
+use vbm_memdisk::{MemDisk, MemSink, MemSource};
 use vbm_ports::{
-    Bytes, Failed, MemDisk, MemSink, MemSource, Names, Sequence, Sink, Source, Text, names_medium,
-    put_all,
+    Bytes, Failed, Names, Sequence, Sink, Source, Text, names_medium, names_store_file, put_all,
 };
 use vbm_top::{PeekResult, Refusal, peek};
 
@@ -72,4 +72,22 @@ fn takes_and_puts_pieces(rt: HostRuntime) -> Result<(), Fail> {
     assert_eq!(rt; sink.written(), b"abcde".as_slice());
     assert_eq!(rt; sink.refused(), 0);
     Ok(())
+}
+
+#[test]
+fn knows_store_names(rt: HostRuntime) {
+    for (name, is_store_name) in [
+        ("a.vdi", true),
+        ("library.vbm", true),
+        ("intent.vbm", true),
+        ("{00010203-0405-8602-8000-00000000000a}.vdi", true),
+        ("{00010203-0405-8602-8000-00000000000A}.vdi", false),
+        ("{00010203-0405-8602-80000-0000000000a}.vdi", false),
+        ("00010203-0405-8602-8000-00000000000a}.vdi", false),
+        ("{00010203-0405-8602-8000-00000000000a}.vd", false),
+        ("library.vbn", false),
+        ("", false),
+    ] {
+        assert_eq!(rt; names_store_file(name.as_bytes()), is_store_name, "{name}");
+    }
 }
