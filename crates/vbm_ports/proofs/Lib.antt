@@ -1,3 +1,4 @@
 pub mod Appends
 pub mod NameLemmas
+pub mod Puts
 pub mod States

@@ -1,0 +1,11 @@
+mod Applying
+mod Commits
+mod FilePartly
+mod Fills
+mod Places
+mod Pushes
+mod Records
+mod Sets
+mod Starts
+mod TornLog
+mod Wholes

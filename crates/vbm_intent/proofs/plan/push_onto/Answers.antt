@@ -1,0 +1,18 @@
+use Rattle.std.proofs.Common.{◌≡◌, ℕ, ◌+◌, ◌-◌, ◌∙◌, List, ◌++◌, drop, ap}
+use Rattle.std.specs.Int.{to_le_bytes, w32}
+use Rattle.vbm_intent.specs.Record.{count_of}
+use Rattle.vbm_intent.specs.Plan.{text_of, record_of}
+use Rattle.vbm_intent.proofs.Wholes.{head_set}
+use Rattle.vbm_intent.proofs.plan.push_onto.Goals as goal
+
+pub returns-clause-ok : goal.returns-clause-ok
+returns-clause-ok c =
+    let text = record_of c.args.text.now.items in
+    let head : c.put_head.new.text.items ≡ text = c.put_head.ensures.items ∙ ap record_of c.reserve_in.ensures.items in
+    head_set text c.args.change.now c.put_change.new.text.items c.set_head.new.text c.put_change.new.text.len (c.len-size.result - 8) (c.u32_at-count.result + 1)
+    c.requires.head
+    (c.put_change.ensures.items ∙ ap (λ (l : List ℕ). l ++ text_of c.args.change.now) head)
+    (c.set_head.ensures ∙ ap (λ (l : List ℕ). to_le_bytes w32 (c.len-size.result - 8) ++ (to_le_bytes w32 (c.u32_at-count.result + 1) ++ drop 8 l)) c.deref_mut.ensures.value)
+    c.put_change.new.text.ok.0
+    (ap (λ (k : ℕ). k - 8) c.len-size.ensures)
+    (ap (λ (k : ℕ). k + 1) (c.u32_at-count.ensures ∙ ap count_of (c.deref.ensures.value ∙ head)))

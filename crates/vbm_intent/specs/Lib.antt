@@ -1,0 +1,6 @@
+pub mod Changes
+pub mod Record
+pub mod Pieces
+pub mod Plan
+pub mod Log
+pub mod Partly

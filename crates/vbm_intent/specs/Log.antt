@@ -1,0 +1,62 @@
+-- The log `intent.vbm`: a gate byte, 7 unread bytes, and a record. Redo applies the record of a log whose gate is open.
+use Rattle.std.specs.Prelude.{◌≡◌, ◌≢◌, ℕ, ◌≤◌, List, [], ◌∷◌, length, drop, Option, Some, None}
+use Rattle.std.proofs.Common.{sym, ◌∙◌, ap}
+use Rattle.vbm_ports.specs.Files.{Files, bytes_of}
+use Rattle.vbm_intent.specs.declared.change.Change.{Change}
+use Rattle.vbm_intent.specs.Changes.{log_name, changed, Fits}
+use Rattle.vbm_intent.specs.Record.{IsRecord}
+
+-- The gate is open: the log has 16 bytes at least, and the first is 0xA5.
+abbrev pub IsOpen : Option (List ℕ) → Type 0
+IsOpen None = ⊥
+IsOpen (Some []) = ⊥
+IsOpen (Some (gate ∷ behind)) = (gate ≡ 165) × (15 ≤ length behind)
+
+-- The log is shut: it has a gate byte other than 0xA5. So a write behind that byte, torn or not, leaves it closed.
+abbrev pub IsShut : Option (List ℕ) → Type 0
+IsShut None = ⊥
+IsShut (Some []) = ⊥
+IsShut (Some (gate ∷ behind)) = gate ≢ 165
+
+-- in every image the log is shut
+abbrev pub IsShutInAll : (Files → Type 0) → Type 0
+IsShutInAll images = (image : Files) → images image → IsShut (image log_name)
+
+-- the gate is open, and these changes are the record's and fit the files
+pub record IsPending (files : Files) (cs : List Change) : Type 0 where
+  pub opens : IsOpen (files log_name)
+  pub recorded : IsRecord (drop 8 (bytes_of (files log_name))) cs
+  pub fits : Fits cs files
+
+-- What redo makes of files. Where the gate is open and no changes are pending, the log is bad and redo has no result.
+pub data Redo (files result : Files) : Type 0 where
+  closed : (IsOpen (files log_name) → ⊥) → result ≡ files → Redo files result
+  pending : (cs : List Change) → IsPending files cs → result ≡ changed cs files → Redo files result
+
+pub redo_has_one_result : (files a b : Files) → Redo files a → Redo files b → a ≡ b
+redo_has_one_result files a b (closed shut is) (closed shut' is') = is ∙ sym is'
+redo_has_one_result files a b (closed shut is) (pending cs p is') = absurd (shut p.opens)
+redo_has_one_result files a b (pending cs p is) (closed shut is') = absurd (shut p.opens)
+redo_has_one_result files a b (pending cs p is) (pending ds q is') =
+    let same : cs ≡ ds = cc (p.recorded.changes, q.recorded.changes) in
+    is ∙ ap (λ (l : List Change). changed l files) same ∙ sym is'
+
+-- the gate is open, and no changes are pending
+pub record IsBadLog (files : Files) : Type 0 where
+  pub opens : IsOpen (files log_name)
+  pub none : (cs : List Change) → IsPending files cs → ⊥
+
+-- every file but the log is the same
+abbrev pub SameBesidesLog : Files → Files → Type 0
+SameBesidesLog a b = (name : List ℕ) → name ≢ log_name → a name ≡ b name
+
+-- after redo, and but for the log, an image is these files
+pub record RedoesTo (files image : Files) : Type 0 where
+  pub result : Files
+  pub redo : Redo image result
+  pub same : SameBesidesLog result files
+
+-- Inside a commit: after redo, and but for the log, an image is an image of the start, or the files of the start with all changes.
+pub data IsBeforeOrAfter (cs : List Change) (files : Files) (images : Files → Type 0) (image : Files) : Type 0 where
+  before : (start : Files) → images start → RedoesTo start image → IsBeforeOrAfter cs files images image
+  done : RedoesTo (changed cs files) image → IsBeforeOrAfter cs files images image

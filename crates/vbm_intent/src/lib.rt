@@ -1,0 +1,12 @@
+//! The gated log: changes of several files, all of them or none, whenever a crash comes.
+#![tactic(auto)]
+
+mod apply;
+mod change;
+mod log;
+mod plan;
+mod record;
+
+pub use change::Change;
+pub use log::Log;
+pub use plan::Plan;

@@ -1,0 +1,209 @@
+//! Commits that are stopped at each call, and what a crash leaves of them.
+
+ghost use Rattle.std.specs.Prelude.{◌≡◌, [], ◌∷◌, None, IfOk};
+ghost use Rattle.vbm_memdisk.specs.MemDisk.{memory_state};
+ghost use Rattle.vbm_intent.specs.Changes.{log_name};
+ghost use Rattle.vbm_log_tests.specs.Plans.{a_written, b_removed, a_put, a_cut, b_zeros, c_nines, d_removed, e_made};
+
+use std::alloc::Global;
+use std::process::Abort;
+use std::test::Fail;
+use vbm_intent::{Change, Log, Plan};
+use vbm_memdisk::{MemDisk, Pick};
+use vbm_ports::{Bytes, Failed, Text};
+
+/// The record of the plan: the 27 bytes of its body, its 2 changes, and these.
+static RECORD: &[u8] =
+    b"\x1b\0\0\0\x02\0\0\0\x01\x05a.vdi\0\0\0\0\0\0\0\0\x01\0\0\0\x03\x04\x05b.vdi";
+
+/// How many calls of the disk start the log, and then commit the plan.
+const CALLS: u64 = 12;
+
+fn write_a(alloc: Global) -> Result<Change, Fail>
+    ensures { IfOk result (λ change. change ≡ a_written) }
+{
+    let name = Text::new(alloc, b"a.vdi")?;
+    let bytes = Bytes::from_slice(alloc, b"\x03")?;
+    Ok(Change::Write { name, at: 0, bytes })
+}
+
+fn remove_b(alloc: Global) -> Result<Change, Fail>
+    ensures { IfOk result (λ change. change ≡ b_removed) }
+{
+    let name = Text::new(alloc, b"b.vdi")?;
+    Ok(Change::Remove { name })
+}
+
+// Writes one byte of one file, and removes another.
+fn plan_of_two(alloc: Global) -> Result<Plan, Fail>
+    ensures { IfOk result (λ plan. plan.changes ≡ a_written ∷ b_removed ∷ []) }
+{
+    let mut plan = Plan::new(alloc);
+    plan.push(write_a(alloc)?)?;
+    plan.push(remove_b(alloc)?)?;
+    Ok(plan)
+}
+
+fn disk_of_two(alloc: Global) -> Result<MemDisk, Fail> {
+    let mut disk = MemDisk::new(alloc);
+    disk.put_file(b"a.vdi", b"\x01")?;
+    disk.put_file(b"b.vdi", b"\x02")?;
+    Ok(disk)
+}
+
+fn start_and_commit(disk: &mut MemDisk, plan: &Plan) -> Result<(), Failed>
+    requires absent { (memory_state disk.old).files log_name ≡ None }
+    requires plan { plan.now.changes ≡ a_written ∷ b_removed ∷ [] }
+{
+    let mut log = Log::start(disk)?;
+    log.commit(disk, plan)
+}
+
+// A log whose gate is open holds the plan. Else all is as before, or all is done.
+fn check_image(rt: &impl Abort, image: &MemDisk, is_done: bool) {
+    let log = image.file(b"intent.vbm").unwrap_or(b"");
+    if log.len() >= 16 && log[0] == 0xA5 {
+        assert!(rt; &log[8..] == RECORD);
+        return;
+    }
+    let a = image.file(b"a.vdi");
+    let b = image.file(b"b.vdi");
+    let is_before = a == Some(b"\x01".as_slice()) && b == Some(b"\x02".as_slice());
+    let is_after = a == Some(b"\x03".as_slice()) && b.is_none();
+    assert!(rt; is_after || is_before && !is_done);
+}
+
+// Commits the plan, and checks what a crash leaves then.
+fn check_commit(rt: &impl Abort, disk: MemDisk, plan: &Plan, succeeds: bool) -> Result<(), Fail>
+    requires plan { plan.now.changes ≡ a_written ∷ b_removed ∷ [] }
+{
+    let mut disk = disk;
+    assert!(rt; disk.file(b"intent.vbm").is_none());
+    let is_done = start_and_commit(&mut disk, plan).is_ok();
+    assert_eq!(rt; is_done, succeeds);
+    for pick in [Pick::Old, Pick::New, Pick::Byte(7), Pick::Byte(0xA5)] {
+        check_image(rt, &disk.images_of_last_sync(pick)?, is_done);
+    }
+    Ok(())
+}
+
+#[test]
+fn stops_at_each_call(rt: HostRuntime) -> Result<(), Fail> {
+    let plan = plan_of_two(rt.alloc())?;
+    for k in 0..=CALLS {
+        let mut disk = disk_of_two(rt.alloc())?;
+        disk.stop_at(k);
+        check_commit(&rt, disk, &plan, k == CALLS)?;
+    }
+    Ok(())
+}
+
+#[test]
+fn fails_at_each_call(rt: HostRuntime) -> Result<(), Fail> {
+    let plan = plan_of_two(rt.alloc())?;
+    for k in 0..=CALLS {
+        let mut disk = disk_of_two(rt.alloc())?;
+        disk.fail_call(k)?;
+        check_commit(&rt, disk, &plan, k == CALLS)?;
+    }
+    Ok(())
+}
+
+fn put_a(alloc: Global) -> Result<Change, Fail>
+    ensures { IfOk result (λ change. change ≡ a_put) }
+{
+    let name = Text::new(alloc, b"a.vdi")?;
+    let bytes = Bytes::from_slice(alloc, b"\x07\x08")?;
+    Ok(Change::Write { name, at: 0, bytes })
+}
+
+fn cut_a(alloc: Global) -> Result<Change, Fail>
+    ensures { IfOk result (λ change. change ≡ a_cut) }
+{
+    let name = Text::new(alloc, b"a.vdi")?;
+    Ok(Change::Cut { name, len: 5 })
+}
+
+fn fill_b(alloc: Global) -> Result<Change, Fail>
+    ensures { IfOk result (λ change. change ≡ b_zeros) }
+{
+    let name = Text::new(alloc, b"b.vdi")?;
+    Ok(Change::Fill {
+        name,
+        at: 0,
+        len: 3,
+        byte: 0,
+    })
+}
+
+fn fill_c(alloc: Global) -> Result<Change, Fail>
+    ensures { IfOk result (λ change. change ≡ c_nines) }
+{
+    let name = Text::new(alloc, b"c.vdi")?;
+    Ok(Change::Fill {
+        name,
+        at: 0,
+        len: 5000,
+        byte: 9,
+    })
+}
+
+fn remove_d(alloc: Global) -> Result<Change, Fail>
+    ensures { IfOk result (λ change. change ≡ d_removed) }
+{
+    let name = Text::new(alloc, b"d.vdi")?;
+    Ok(Change::Remove { name })
+}
+
+fn make_e(alloc: Global) -> Result<Change, Fail>
+    ensures { IfOk result (λ change. change ≡ e_made) }
+{
+    let name = Text::new(alloc, b"e.vdi")?;
+    let bytes = Bytes::from_slice(alloc, b"\x01")?;
+    Ok(Change::Write { name, at: 0, bytes })
+}
+
+// All kinds of changes, over five files.
+fn plan_of_six(alloc: Global) -> Result<Plan, Fail>
+    ensures { IfOk result (λ plan. plan.changes ≡ a_put ∷ a_cut ∷ b_zeros ∷ c_nines ∷ d_removed ∷ e_made ∷ []) }
+{
+    let mut plan = Plan::new(alloc);
+    plan.push(put_a(alloc)?)?;
+    plan.push(cut_a(alloc)?)?;
+    plan.push(fill_b(alloc)?)?;
+    plan.push(fill_c(alloc)?)?;
+    plan.push(remove_d(alloc)?)?;
+    plan.push(make_e(alloc)?)?;
+    Ok(plan)
+}
+
+// Makes and settles a plan.
+fn commit_six(disk: &mut MemDisk, plan: &Plan) -> Result<(), Failed>
+    requires absent { (memory_state disk.old).files log_name ≡ None }
+    requires plan { plan.now.changes ≡ a_put ∷ a_cut ∷ b_zeros ∷ c_nines ∷ d_removed ∷ e_made ∷ [] }
+{
+    let mut log = Log::start(disk)?;
+    log.commit(disk, plan)
+}
+
+#[test]
+fn makes_changes_of_all_kinds(rt: HostRuntime) -> Result<(), Fail> {
+    let alloc = rt.alloc();
+    let plan = plan_of_six(alloc)?;
+    assert_eq!(rt; plan.size(), 21 + 15 + 24 + 24 + 7 + 20);
+    let mut disk = MemDisk::new(alloc);
+    disk.put_file(b"a.vdi", b"abcdefgh")?;
+    disk.put_file(b"b.vdi", b"xy")?;
+    disk.put_file(b"c.vdi", b"abc")?;
+    disk.put_file(b"d.vdi", b"old")?;
+    assert!(rt; disk.file(b"intent.vbm").is_none());
+    assert!(rt; commit_six(&mut disk, &plan).is_ok());
+    let settled = disk.images_of_last_sync(Pick::Byte(7))?;
+    assert!(rt; settled.file(b"a.vdi") == Some(b"\x07\x08cde".as_slice()));
+    assert!(rt; settled.file(b"b.vdi") == Some(b"\0\0\0".as_slice()));
+    let nines = settled.file(b"c.vdi").unwrap_or(b"");
+    assert!(rt; nines.len() == 5000 && nines.iter().all(|byte| *byte == 9));
+    assert!(rt; settled.file(b"d.vdi").is_none());
+    assert!(rt; settled.file(b"e.vdi") == Some(b"\x01".as_slice()));
+    Ok(())
+}

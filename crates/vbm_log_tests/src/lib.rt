@@ -1,0 +1,5 @@
+//! Tests of the gated log.
+#![tactic(auto)]
+
+#[cfg(test)]
+mod commits;
