@@ -168,6 +168,7 @@ fn plan_of_six(alloc: Global) -> Result<Plan, Fail>
     ensures { IfOk result (λ plan. plan.changes ≡ a_put ∷ a_cut ∷ b_zeros ∷ c_nines ∷ d_removed ∷ e_made ∷ []) }
 {
     let mut plan = Plan::new(alloc);
+    plan.reserve(6, 111)?;
     plan.push(put_a(alloc)?)?;
     plan.push(cut_a(alloc)?)?;
     plan.push(fill_b(alloc)?)?;
