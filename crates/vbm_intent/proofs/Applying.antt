@@ -53,7 +53,7 @@ apart_has d (e ∷ es) c i apart (inl is) td tc = apart.0 i td (subst (λ x. Tou
 apart_has d (e ∷ es) c i apart (inr has) td tc = apart_has d es c i apart.1 has td tc
 
 -- what one change writes none takes away
-writes_kept : (cs : List Change) (c : Change) (i : ℕ) → IsApart cs → Has cs c → Writes c i → IsKept cs i
+pub writes_kept : (cs : List Change) (c : Change) (i : ℕ) → IsApart cs → Has cs c → Writes c i → IsKept cs i
 writes_kept [] c i apart has w = absurd has
 writes_kept (d ∷ ds) c i apart (inl is) w =
     let here : Writes d i = subst (λ x. Writes x i) (sym is) w in
@@ -84,20 +84,20 @@ removed_not_stays (Remove m ∷ cs) name has stays = stays
 pub cases_name : (a b : List ℕ) → ((bytes_eq a b ≡ true) × (a ≡ b)) ⊎ ((bytes_eq a b ≡ false) × (a ≢ b))
 cases_name a b = ⊎_elim (λ is. inl (is, (bytes_eq-Decides a b).0 is)) (λ no. inr (no, (λ same. cc ((bytes_eq-Decides a b).1 same, no)))) (cases_Bool (bytes_eq a b))
 
-of_file_yes : (n : List ℕ) (d : Change) (ds : List Change) → bytes_eq (name_of d) n ≡ true → of_file n (d ∷ ds) ≡ d ∷ of_file n ds
+pub of_file_yes : (n : List ℕ) (d : Change) (ds : List Change) → bytes_eq (name_of d) n ≡ true → of_file n (d ∷ ds) ≡ d ∷ of_file n ds
 of_file_yes n d ds is = rw is
 
-of_file_no : (n : List ℕ) (d : Change) (ds : List Change) → bytes_eq (name_of d) n ≡ false → of_file n (d ∷ ds) ≡ of_file n ds
+pub of_file_no : (n : List ℕ) (d : Change) (ds : List Change) → bytes_eq (name_of d) n ≡ false → of_file n (d ∷ ds) ≡ of_file n ds
 of_file_no n d ds is = rw is
 
-of_file-append : (n : List ℕ) (cs ds : List Change) → of_file n (cs ++ ds) ≡ of_file n cs ++ of_file n ds
+pub of_file-append : (n : List ℕ) (cs ds : List Change) → of_file n (cs ++ ds) ≡ of_file n cs ++ of_file n ds
 of_file-append n [] ds = refl
 of_file-append n (c ∷ cs) ds = ⊎_elim
     (λ is. of_file_yes n c (cs ++ ds) is ∙ ap (λ (l : List Change). c ∷ l) (of_file-append n cs ds) ∙ ap (λ (l : List Change). l ++ of_file n ds) (sym (of_file_yes n c cs is)))
     (λ no. of_file_no n c (cs ++ ds) no ∙ of_file-append n cs ds ∙ ap (λ (l : List Change). l ++ of_file n ds) (sym (of_file_no n c cs no)))
     (cases_Bool (bytes_eq (name_of c) n))
 
-has_of_file : (cs : List Change) (c : Change) → Has cs c → Has (of_file (name_of c) cs) c
+pub has_of_file : (cs : List Change) (c : Change) → Has cs c → Has (of_file (name_of c) cs) c
 has_of_file [] c has = absurd has
 has_of_file (d ∷ ds) c (inl is) =
     let named : bytes_eq (name_of d) (name_of c) ≡ true = (bytes_eq-Decides (name_of d) (name_of c)).1 (ap name_of is) in
@@ -152,7 +152,7 @@ change_partly cs files cur old new (Remove name) allowed plan has partly_cur par
     (subst (λ r. IsFilePartly (of_file name cs) (files name) r) (sym sets.here)
     (removed_between (of_file name cs) (files name) (removed_not_stays (of_file name cs) name of_name) (λ i kept. has_kept (of_file name cs) (Remove name) i of_name kept tt)))
 
-after-append : (cs ds : List Change) (file : Option (List ℕ)) → after (cs ++ ds) file ≡ after ds (after cs file)
+pub after-append : (cs ds : List Change) (file : Option (List ℕ)) → after (cs ++ ds) file ≡ after ds (after cs file)
 after-append [] ds file = refl
 after-append (c ∷ cs) ds file = after-append cs ds (effect c file)
 
@@ -160,11 +160,11 @@ fits_next : (pre : List Change) (c : Change) (post : List Change) (file : Option
 fits_next [] c post file fits = fits.0
 fits_next (d ∷ pre) c post file fits = fits_next pre c post (effect d file) fits.1
 
-named_self : (c : Change) → bytes_eq (name_of c) (name_of c) ≡ true
+pub named_self : (c : Change) → bytes_eq (name_of c) (name_of c) ≡ true
 named_self c = (bytes_eq-Decides (name_of c) (name_of c)).1 refl
 
 -- the next change begins within its file as it is by then
-next_fits : (cs pre : List Change) (c : Change) (post : List Change) (files : Files) → cs ≡ pre ++ c ∷ post → Fits cs files → start_of c ≤ length (bytes_of (changed pre files (name_of c)))
+pub next_fits : (cs pre : List Change) (c : Change) (post : List Change) (files : Files) → cs ≡ pre ++ c ∷ post → Fits cs files → start_of c ≤ length (bytes_of (changed pre files (name_of c)))
 next_fits cs pre c post files is fits =
     let named : of_file (name_of c) cs ≡ of_file (name_of c) pre ++ c ∷ of_file (name_of c) post =
     ap (λ (l : List Change). of_file (name_of c) l) is ∙ of_file-append (name_of c) pre (c ∷ post)
@@ -193,7 +193,7 @@ one_more pre c files cur new is sets = λ i name. at name i
         not_named : (name : List ℕ) → (name ≢ name_of c) → bytes_eq (name_of c) name ≡ false
         not_named name other = ⊎_elim (λ is. absurd (other (sym ((bytes_eq-Decides (name_of c) name).0 is)))) (λ shut. shut) (cases_Bool (bytes_eq (name_of c) name))
 
-has_middle : (pre : List Change) (c : Change) (post : List Change) → Has (pre ++ c ∷ post) c
+pub has_middle : (pre : List Change) (c : Change) (post : List Change) → Has (pre ++ c ∷ post) c
 has_middle [] c post = inl refl
 has_middle (d ∷ pre) c post = inr (has_middle pre c post)
 

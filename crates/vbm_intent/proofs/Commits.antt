@@ -28,12 +28,12 @@ spares_log (c ∷ cs) allowed = ⊎_elim
     (λ no. ap (λ (b : Bool). cond b (c ∷ of_file log_name cs) (of_file log_name cs)) no ∙ spares_log cs (All-tail IsAllowed c cs allowed))
     (cases_Bool (bytes_eq (name_of c) log_name))
 
-shut_closed : (file : Option (List ℕ)) → IsShut file → IsOpen file → ⊥
+pub shut_closed : (file : Option (List ℕ)) → IsShut file → IsOpen file → ⊥
 shut_closed None shut opens = shut
 shut_closed (Some []) shut opens = shut
 shut_closed (Some (g ∷ behind)) shut opens = shut opens.0
 
-besides_sym : (a b : Files) → SameBesidesLog a b → SameBesidesLog b a
+pub besides_sym : (a b : Files) → SameBesidesLog a b → SameBesidesLog b a
 besides_sym a b same = λ name other. sym (same name other)
 
 besides_trans : (a b c : Files) → SameBesidesLog a b → SameBesidesLog b c → SameBesidesLog a c
@@ -71,17 +71,17 @@ is_pending cs image behind log holds fits = record {
 }
 
 module _ (cs : List Change) (plan : IsPlan cs) where
-  changed_besides : (a b : Files) → SameBesidesLog a b → SameBesidesLog (changed cs a) (changed cs b)
+  pub changed_besides : (a b : Files) → SameBesidesLog a b → SameBesidesLog (changed cs a) (changed cs b)
   changed_besides a b same = λ name other. ap (λ (f : Option (List ℕ)). after (of_file name cs) f) (same name other)
 
-  fits_besides : (a b : Files) → SameBesidesLog a b → Fits cs a → Fits cs b
+  pub fits_besides : (a b : Files) → SameBesidesLog a b → Fits cs a → Fits cs b
   fits_besides a b same fits = λ name. ⊎_elim
       (λ is. subst (λ n. FitsFile (of_file n cs) (b n)) (sym is) (subst (λ l. FitsFile l (b log_name)) (sym (spares_log cs plan.allowed)) tt))
       (λ other. subst (λ f. FitsFile (of_file name cs) f) (same name other) (fits name))
       (cases_name name log_name)
 
   -- the changes leave the log as it was
-  log_kept : (files image : Files) → IsPartly cs files image → image log_name ≡ files log_name
+  pub log_kept : (files image : Files) → IsPartly cs files image → image log_name ≡ files log_name
   log_kept files image partly = nothing_left (files log_name) (image log_name) (subst (λ l. IsFilePartly l (files log_name) (image log_name)) (spares_log cs plan.allowed) (partly log_name))
 
   -- an image with the record, behind an open gate or a shut one

@@ -7,12 +7,12 @@ use Rattle.std.proofs.lemmas.Bool.{cases_Bool, le-leb}
 use Rattle.std.proofs.lemmas.Slice.Eq.{bytes_eq-Decides}
 use Rattle.std.specs.Int.{to_le_bytes, w32}
 use Rattle.std.specs.Str.{bytes_eq}
-use Rattle.std.specs.Prelude.{unwrap_or, Result, Ok, Err, OnOk, OnErr}
+use Rattle.std.specs.Prelude.{nat_le, unwrap_or, Result, Ok, Err, OnOk, OnErr}
 use Rattle.vbm_ports.proofs.NameLemmas.{store_name_short}
 use Rattle.vbm_intent.specs.declared.change.Change.{Change}
 use Rattle.vbm_intent.specs.declared.change.Change.TheVariants.{Write, Fill, Cut, Remove}
 use Rattle.vbm_intent.specs.Changes.{name_of, of_file, IsWithinLimits, IsAllowed, IsApart}
-use Rattle.vbm_intent.specs.Record.{body_length, count_of, changes_of, changes_in, IsPlan}
+use Rattle.vbm_intent.specs.Record.{body_length, count_of, changes_of, changes_in, IsPlan, IsRecord}
 use Rattle.vbm_intent.specs.Plan.{text_of, text_size, body_size, record_of, plan_of, spare_in, with_change, IsWholeRecord}
 use Rattle.vbm_intent.proofs.Pushes.{text_length, NumbersFit, read_change, Pushed, pushed}
 
@@ -41,7 +41,7 @@ numbers_fit (Fill name at len byte) limits size = (omega (arith, limits.2), omeg
 numbers_fit (Cut name len) limits size = omega (arith, limits)
 numbers_fit (Remove name) limits size = tt
 
-of_file_end : (name : List ℕ) (c : Change) (cs : List Change) → bytes_eq (name_of c) name ≡ false → of_file name (cs ++ c ∷ []) ≡ of_file name cs
+pub of_file_end : (name : List ℕ) (c : Change) (cs : List Change) → bytes_eq (name_of c) name ≡ false → of_file name (cs ++ c ∷ []) ≡ of_file name cs
 of_file_end name c [] other = ap (λ (b : Bool). cond b (c ∷ []) []) other
 of_file_end name c (d ∷ cs) other = ap (λ (l : List Change). cond (bytes_eq (name_of d) name) (d ∷ l) l) (of_file_end name c cs other)
 
@@ -149,3 +149,16 @@ head_set text c long new n size count head is_long is_new is_n is_size is_count 
 
     same_body : drop 8 long ≡ drop 8 text ++ text_of c
     same_body = ap (λ (l : List ℕ). drop 8 l) is_long ∙ drop-append-le 8 text (text_of c) head
+
+-- a record has as many changes as it counts
+pub record_count : (text : List ℕ) (cs : List Change) → IsRecord text cs → length cs ≡ count_of text
+record_count text cs is = ⊎_elim
+    (λ fits.
+    let read : changes_of (count_of text) body ≡ Some cs = sym (ap (λ (b : Bool). cond b (changes_of (count_of text) body) None) fits) ∙ is.changes in
+    let all : Pushed (count_of text) body (Some cs) = subst (λ o. Pushed (count_of text) body o) read (pushed (count_of text) body) in
+    all.0)
+    (λ no. let none : changes_in text ≡ None = ap (λ (b : Bool). cond b (changes_of (count_of text) body) None) no in absurd (cc (none, is.changes)))
+    (cases_Bool (nat_le (8 + body_length text) (length text)))
+  where
+    body : List ℕ
+    body = take (body_length text) (drop 8 text)

@@ -1,10 +1,10 @@
 -- The log `intent.vbm`: a gate byte, 7 unread bytes, and a record. Redo applies the record of a log whose gate is open.
-use Rattle.std.specs.Prelude.{◌≡◌, ◌≢◌, ℕ, ◌≤◌, List, [], ◌∷◌, length, drop, Option, Some, None}
+use Rattle.std.specs.Prelude.{◌≡◌, ◌≢◌, ℕ, ◌^◌, ◌≤◌, min, List, [], ◌∷◌, length, drop, Option, Some, None}
 use Rattle.std.proofs.Common.{sym, ◌∙◌, ap}
 use Rattle.vbm_ports.specs.Files.{Files, bytes_of}
 use Rattle.vbm_intent.specs.declared.change.Change.{Change}
 use Rattle.vbm_intent.specs.Changes.{log_name, changed, Fits}
-use Rattle.vbm_intent.specs.Record.{IsRecord}
+use Rattle.vbm_intent.specs.Record.{body_length, IsRecord}
 
 -- The gate is open: the log has 16 bytes at least, and the first is 0xA5.
 abbrev pub IsOpen : Option (List ℕ) → Type 0
@@ -21,6 +21,10 @@ IsShut (Some (gate ∷ behind)) = gate ≢ 165
 -- in every image the log is shut
 abbrev pub IsShutInAll : (Files → Type 0) → Type 0
 IsShutInAll images = (image : Files) → images image → IsShut (image log_name)
+
+-- the length of the record's body as an open log tells it, at most 2^25
+abbrev pub recorded_size : Option (List ℕ) → ℕ
+recorded_size file = min (body_length (drop 8 (bytes_of file))) (2 ^ 25)
 
 -- the gate is open, and these changes are the record's and fit the files
 pub record IsPending (files : Files) (cs : List Change) : Type 0 where
@@ -60,3 +64,8 @@ pub record RedoesTo (files image : Files) : Type 0 where
 pub data IsBeforeOrAfter (cs : List Change) (files : Files) (images : Files → Type 0) (image : Files) : Type 0 where
   before : (start : Files) → images start → RedoesTo start image → IsBeforeOrAfter cs files images image
   done : RedoesTo (changed cs files) image → IsBeforeOrAfter cs files images image
+
+-- Inside redo: after redo, and but for the log, an image is what redo gives of the files; where their log is bad, it is those files.
+pub record IsLikeRedone (files image : Files) : Type 0 where
+  pub good : (result : Files) → Redo files result → RedoesTo result image
+  pub bad : IsBadLog files → image ≡ files

@@ -3,10 +3,13 @@
 
 mod apply;
 mod change;
+mod check;
 mod log;
 mod plan;
 mod record;
+mod recovery;
 
 pub use change::Change;
 pub use log::Log;
 pub use plan::Plan;
+pub use recovery::{Redone, record_size, redo};

@@ -8,6 +8,9 @@ ghost use Rattle.vbm_intent.specs.Pieces.{change_in};
 
 use std::marker::Model;
 
+/// No record has a longer body, in bytes.
+pub(crate) const LONGEST_BODY: u32 = 1 << 25;
+
 /// One change of a record, which lends its name and bytes.
 #[derive(Clone, Copy, Debug)]
 pub(crate) enum Piece<'a> {
@@ -83,6 +86,16 @@ impl<'a> Changes<'a> {
         Changes {
             count: u32_at(text, 4),
             body: &text[8..8 + n],
+        }
+    }
+
+    /// The same changes, to be read once more.
+    pub(crate) fn again(&self) -> Changes<'a>
+        ensures { result ≡ self.now }
+    {
+        Changes {
+            count: self.count,
+            body: self.body,
         }
     }
 

@@ -1,1 +1,2 @@
+pub mod ByteWrites
 pub mod PlanLemmas

@@ -1,5 +1,7 @@
--- The plan of the tests.
-use Rattle.std.specs.Prelude.{[], ◌∷◌, codes}
+-- The plans of the tests.
+use Rattle.std.specs.Prelude.{ℕ, ◌%◌, zero, suc, List, [], ◌∷◌, replicate, codes}
+use Rattle.vbm_ports.specs.Files.{Files}
+use Rattle.vbm_intent.specs.Changes.{Fits}
 use Rattle.vbm_intent.specs.declared.change.Change.{Change}
 use Rattle.vbm_intent.specs.declared.change.Change.TheVariants.{Write, Fill, Cut, Remove}
 
@@ -15,8 +17,8 @@ b_removed = Remove (codes "b.vdi")
 abbrev pub a_put : Change
 a_put = Write (codes "a.vdi") 0 (7 ∷ 8 ∷ [])
 
-abbrev pub a_cut : Change
-a_cut = Cut (codes "a.vdi") 5
+abbrev pub a_cut : ℕ → Change
+a_cut len = Cut (codes "a.vdi") len
 
 abbrev pub b_zeros : Change
 b_zeros = Fill (codes "b.vdi") 0 3 0
@@ -29,3 +31,20 @@ d_removed = Remove (codes "d.vdi")
 
 abbrev pub e_made : Change
 e_made = Write (codes "e.vdi") 0 (1 ∷ [])
+
+-- a write of some sevens
+abbrev pub a_sevens : ℕ → Change
+a_sevens len = Write (codes "a.vdi") 0 (replicate len 7)
+
+-- a write of one byte, which tells its place
+abbrev pub a_byte : ℕ → Change
+a_byte at = Write (codes "a.vdi") at (at % 251 ∷ [])
+
+-- n of them, from a place on
+abbrev pub a_bytes : ℕ → ℕ → List Change
+a_bytes at zero = []
+a_bytes at (suc n) = a_byte at ∷ a_bytes (suc at) n
+
+-- the changes fit whatever files there are
+abbrev pub FitsAll : List Change → Type 0
+FitsAll cs = (files : Files) → Fits cs files

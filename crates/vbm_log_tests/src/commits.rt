@@ -3,8 +3,9 @@
 ghost use Rattle.std.specs.Prelude.{◌≡◌, [], ◌∷◌, None, IfOk};
 ghost use Rattle.vbm_memdisk.specs.MemDisk.{memory_state};
 ghost use Rattle.vbm_intent.specs.Changes.{log_name};
-ghost use Rattle.vbm_log_tests.specs.Plans.{a_written, b_removed, a_put, a_cut, b_zeros, c_nines, d_removed, e_made};
+ghost use Rattle.vbm_log_tests.specs.Plans.{FitsAll, a_written, b_removed, a_put, a_cut, b_zeros, c_nines, d_removed, e_made};
 
+use crate::redo::{End, redo_log, same_besides_log};
 use std::alloc::Global;
 use std::process::Abort;
 use std::test::Fail;
@@ -13,8 +14,11 @@ use vbm_memdisk::{MemDisk, Pick};
 use vbm_ports::{Bytes, Failed, Text};
 
 /// The record of the plan: the 27 bytes of its body, its 2 changes, and these.
-static RECORD: &[u8] =
+pub(crate) static RECORD: &[u8] =
     b"\x1b\0\0\0\x02\0\0\0\x01\x05a.vdi\0\0\0\0\0\0\0\0\x01\0\0\0\x03\x04\x05b.vdi";
+
+/// The images of a crash that are looked at.
+pub(crate) static PICKS: [Pick; 4] = [Pick::Old, Pick::New, Pick::Byte(7), Pick::Byte(0xA5)];
 
 /// How many calls of the disk start the log, and then commit the plan.
 const CALLS: u64 = 12;
@@ -44,45 +48,58 @@ fn plan_of_two(alloc: Global) -> Result<Plan, Fail>
     Ok(plan)
 }
 
-fn disk_of_two(alloc: Global) -> Result<MemDisk, Fail> {
+pub(crate) fn disk_of_two(alloc: Global) -> Result<MemDisk, Fail> {
     let mut disk = MemDisk::new(alloc);
     disk.put_file(b"a.vdi", b"\x01")?;
     disk.put_file(b"b.vdi", b"\x02")?;
     Ok(disk)
 }
 
-fn start_and_commit(disk: &mut MemDisk, plan: &Plan) -> Result<(), Failed>
+// Makes and settles a plan.
+pub(crate) fn start_and_commit(disk: &mut MemDisk, plan: &Plan) -> Result<(), Failed>
     requires absent { (memory_state disk.old).files log_name ≡ None }
-    requires plan { plan.now.changes ≡ a_written ∷ b_removed ∷ [] }
+    requires fits { FitsAll plan.now.changes }
 {
     let mut log = Log::start(disk)?;
     log.commit(disk, plan)
 }
 
-// A log whose gate is open holds the plan. Else all is as before, or all is done.
-fn check_image(rt: &impl Abort, image: &MemDisk, is_done: bool) {
+// A log whose gate is open holds the plan. After redo all is as before, or all is done; it is done where the gate was open.
+pub(crate) fn check_image(
+    rt: &impl Abort,
+    alloc: Global,
+    image: MemDisk,
+    is_done: bool,
+) -> Result<(), Fail> {
     let log = image.file(b"intent.vbm").unwrap_or(b"");
-    if log.len() >= 16 && log[0] == 0xA5 {
-        assert!(rt; &log[8..] == RECORD);
-        return;
-    }
+    let is_open = log.len() >= 16 && log[0] == 0xA5;
+    assert!(rt; !is_open || log.ends_with(RECORD));
+    let mut image = image;
+    assert_eq!(rt; redo_log(alloc, &mut image)?, End::Done);
     let a = image.file(b"a.vdi");
     let b = image.file(b"b.vdi");
     let is_before = a == Some(b"\x01".as_slice()) && b == Some(b"\x02".as_slice());
     let is_after = a == Some(b"\x03".as_slice()) && b.is_none();
-    assert!(rt; is_after || is_before && !is_done);
+    assert!(rt; is_after || is_before && !is_done && !is_open);
+    Ok(())
 }
 
 // Commits the plan, and checks what a crash leaves then.
-fn check_commit(rt: &impl Abort, disk: MemDisk, plan: &Plan, succeeds: bool) -> Result<(), Fail>
+fn check_commit(
+    rt: &impl Abort,
+    alloc: Global,
+    disk: MemDisk,
+    plan: &Plan,
+    succeeds: bool,
+) -> Result<(), Fail>
     requires plan { plan.now.changes ≡ a_written ∷ b_removed ∷ [] }
 {
     let mut disk = disk;
     assert!(rt; disk.file(b"intent.vbm").is_none());
     let is_done = start_and_commit(&mut disk, plan).is_ok();
     assert_eq!(rt; is_done, succeeds);
-    for pick in [Pick::Old, Pick::New, Pick::Byte(7), Pick::Byte(0xA5)] {
-        check_image(rt, &disk.images_of_last_sync(pick)?, is_done);
+    for pick in PICKS {
+        check_image(rt, alloc, disk.images_of_last_sync(pick)?, is_done)?;
     }
     Ok(())
 }
@@ -93,7 +110,7 @@ fn stops_at_each_call(rt: HostRuntime) -> Result<(), Fail> {
     for k in 0..=CALLS {
         let mut disk = disk_of_two(rt.alloc())?;
         disk.stop_at(k);
-        check_commit(&rt, disk, &plan, k == CALLS)?;
+        check_commit(&rt, rt.alloc(), disk, &plan, k == CALLS)?;
     }
     Ok(())
 }
@@ -104,9 +121,46 @@ fn fails_at_each_call(rt: HostRuntime) -> Result<(), Fail> {
     for k in 0..=CALLS {
         let mut disk = disk_of_two(rt.alloc())?;
         disk.fail_call(k)?;
-        check_commit(&rt, disk, &plan, k == CALLS)?;
+        check_commit(&rt, rt.alloc(), disk, &plan, k == CALLS)?;
     }
     Ok(())
+}
+
+// Commits the plan over the disk of two, and checks both files.
+fn check_files(
+    rt: &impl Abort,
+    alloc: Global,
+    plan: &Plan,
+    a: &[u8],
+    b: Option<&[u8]>,
+) -> Result<(), Fail>
+    requires fits { FitsAll plan.now.changes }
+{
+    let mut disk = disk_of_two(alloc)?;
+    assert!(rt; disk.file(b"intent.vbm").is_none());
+    assert!(rt; start_and_commit(&mut disk, plan).is_ok());
+    let settled = disk.images_of_last_sync(Pick::Byte(9))?;
+    assert!(rt; settled.file(b"a.vdi") == Some(a));
+    assert!(rt; settled.file(b"b.vdi") == b);
+    Ok(())
+}
+
+#[test]
+fn makes_what_was_set(rt: HostRuntime) -> Result<(), Fail> {
+    let alloc = rt.alloc();
+    let mut plan = plan_of_two(alloc)?;
+    plan.set(0, 0, b"\x04");
+    check_files(&rt, alloc, &plan, b"\x04", None)
+}
+
+#[test]
+fn makes_nothing_that_was_cleared(rt: HostRuntime) -> Result<(), Fail> {
+    let alloc = rt.alloc();
+    let mut plan = plan_of_two(alloc)?;
+    plan.clear();
+    assert_eq!(rt; plan.size(), 0);
+    plan.push(put_a(alloc)?)?;
+    check_files(&rt, alloc, &plan, b"\x07\x08", Some(b"\x02"))
 }
 
 fn put_a(alloc: Global) -> Result<Change, Fail>
@@ -117,11 +171,11 @@ fn put_a(alloc: Global) -> Result<Change, Fail>
     Ok(Change::Write { name, at: 0, bytes })
 }
 
-fn cut_a(alloc: Global) -> Result<Change, Fail>
-    ensures { IfOk result (λ change. change ≡ a_cut) }
+pub(crate) fn cut_a(alloc: Global, len: u64) -> Result<Change, Fail>
+    ensures { IfOk result (λ change. change ≡ a_cut len) }
 {
     let name = Text::new(alloc, b"a.vdi")?;
-    Ok(Change::Cut { name, len: 5 })
+    Ok(Change::Cut { name, len })
 }
 
 fn fill_b(alloc: Global) -> Result<Change, Fail>
@@ -165,12 +219,12 @@ fn make_e(alloc: Global) -> Result<Change, Fail>
 
 // All kinds of changes, over five files.
 fn plan_of_six(alloc: Global) -> Result<Plan, Fail>
-    ensures { IfOk result (λ plan. plan.changes ≡ a_put ∷ a_cut ∷ b_zeros ∷ c_nines ∷ d_removed ∷ e_made ∷ []) }
+    ensures { IfOk result (λ plan. FitsAll plan.changes) }
 {
     let mut plan = Plan::new(alloc);
     plan.reserve(6, 111)?;
     plan.push(put_a(alloc)?)?;
-    plan.push(cut_a(alloc)?)?;
+    plan.push(cut_a(alloc, 5)?)?;
     plan.push(fill_b(alloc)?)?;
     plan.push(fill_c(alloc)?)?;
     plan.push(remove_d(alloc)?)?;
@@ -178,13 +232,13 @@ fn plan_of_six(alloc: Global) -> Result<Plan, Fail>
     Ok(plan)
 }
 
-// Makes and settles a plan.
-fn commit_six(disk: &mut MemDisk, plan: &Plan) -> Result<(), Failed>
-    requires absent { (memory_state disk.old).files log_name ≡ None }
-    requires plan { plan.now.changes ≡ a_put ∷ a_cut ∷ b_zeros ∷ c_nines ∷ d_removed ∷ e_made ∷ [] }
-{
-    let mut log = Log::start(disk)?;
-    log.commit(disk, plan)
+fn disk_of_four(alloc: Global) -> Result<MemDisk, Fail> {
+    let mut disk = MemDisk::new(alloc);
+    disk.put_file(b"a.vdi", b"abcdefgh")?;
+    disk.put_file(b"b.vdi", b"xy")?;
+    disk.put_file(b"c.vdi", b"abc")?;
+    disk.put_file(b"d.vdi", b"old")?;
+    Ok(disk)
 }
 
 #[test]
@@ -192,13 +246,9 @@ fn makes_changes_of_all_kinds(rt: HostRuntime) -> Result<(), Fail> {
     let alloc = rt.alloc();
     let plan = plan_of_six(alloc)?;
     assert_eq!(rt; plan.size(), 21 + 15 + 24 + 24 + 7 + 20);
-    let mut disk = MemDisk::new(alloc);
-    disk.put_file(b"a.vdi", b"abcdefgh")?;
-    disk.put_file(b"b.vdi", b"xy")?;
-    disk.put_file(b"c.vdi", b"abc")?;
-    disk.put_file(b"d.vdi", b"old")?;
+    let mut disk = disk_of_four(alloc)?;
     assert!(rt; disk.file(b"intent.vbm").is_none());
-    assert!(rt; commit_six(&mut disk, &plan).is_ok());
+    assert!(rt; start_and_commit(&mut disk, &plan).is_ok());
     let settled = disk.images_of_last_sync(Pick::Byte(7))?;
     assert!(rt; settled.file(b"a.vdi") == Some(b"\x07\x08cde".as_slice()));
     assert!(rt; settled.file(b"b.vdi") == Some(b"\0\0\0".as_slice()));
@@ -206,5 +256,42 @@ fn makes_changes_of_all_kinds(rt: HostRuntime) -> Result<(), Fail> {
     assert!(rt; nines.len() == 5000 && nines.iter().all(|byte| *byte == 9));
     assert!(rt; settled.file(b"d.vdi").is_none());
     assert!(rt; settled.file(b"e.vdi") == Some(b"\x01".as_slice()));
+    Ok(())
+}
+
+// Stops a commit at a call. Redone, each image has the files from before or those from after it.
+fn check_stop(
+    rt: &impl Abort,
+    alloc: Global,
+    plan: &Plan,
+    k: u64,
+    after: &MemDisk,
+) -> Result<(), Fail>
+    requires fits { FitsAll plan.now.changes }
+{
+    let before = disk_of_four(alloc)?;
+    let mut disk = disk_of_four(alloc)?;
+    disk.stop_at(k);
+    assert!(rt; disk.file(b"intent.vbm").is_none());
+    let is_done = start_and_commit(&mut disk, plan).is_ok();
+    assert_eq!(rt; is_done, k == after.calls());
+    for pick in PICKS {
+        let mut image = disk.images_of_last_sync(pick)?;
+        assert_eq!(rt; redo_log(alloc, &mut image)?, End::Done);
+        let is_before = same_besides_log(&image, &before);
+        assert!(rt; same_besides_log(&image, after) || is_before && !is_done);
+    }
+    Ok(())
+}
+
+#[test]
+fn redoes_changes_of_all_kinds(rt: HostRuntime) -> Result<(), Fail> {
+    let plan = plan_of_six(rt.alloc())?;
+    let mut after = disk_of_four(rt.alloc())?;
+    assert!(rt; after.file(b"intent.vbm").is_none());
+    assert!(rt; start_and_commit(&mut after, &plan).is_ok());
+    for k in 0..=after.calls() {
+        check_stop(&rt, rt.alloc(), &plan, k, &after)?;
+    }
     Ok(())
 }

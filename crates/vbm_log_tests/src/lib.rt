@@ -3,3 +3,9 @@
 
 #[cfg(test)]
 mod commits;
+#[cfg(test)]
+mod limits;
+#[cfg(test)]
+mod records;
+#[cfg(test)]
+mod redo;

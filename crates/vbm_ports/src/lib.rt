@@ -4,6 +4,7 @@
 //! `StdoutSink` are the real ones, which tell nothing of content.
 #![tactic(auto)]
 
+mod copied;
 mod disk;
 mod folder;
 mod names;
@@ -11,6 +12,7 @@ mod sequence;
 mod standard;
 mod stream;
 
+pub use copied::Copied;
 pub use disk::Disk;
 pub use folder::FolderDisk;
 pub use names::{names_medium, names_store_file};

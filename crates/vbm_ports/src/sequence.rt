@@ -28,6 +28,13 @@ impl<T> Sequence<T> {
         }
     }
 
+    /// The list of these items.
+    pub fn from_vec(items: Vec<T>) -> Sequence<T>
+        ensures { result ≡ items.items }
+    {
+        Sequence { items }
+    }
+
     /// Appends an item, or changes nothing.
     pub fn push(&mut self, item: T) -> Result<(), NoMemory>
     where

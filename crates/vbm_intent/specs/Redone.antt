@@ -1,0 +1,21 @@
+-- How redo ended.
+use Rattle.vbm_intent.specs.declared.recovery.Redone.{Redone}
+use Rattle.vbm_intent.specs.declared.recovery.Redone.TheVariants.{Done, Failed, BadLog}
+
+-- this holds where the log is shut
+abbrev pub OnDone : Redone → Type 0 → Type 0
+OnDone (Done log) P = P
+OnDone Failed P = Unit {0}
+OnDone BadLog P = Unit {0}
+
+-- this holds where the log is bad
+abbrev pub OnBadLog : Redone → Type 0 → Type 0
+OnBadLog (Done log) P = Unit {0}
+OnBadLog Failed P = Unit {0}
+OnBadLog BadLog P = P
+
+-- this holds where a device failed
+abbrev pub OnFailed : Redone → Type 0 → Type 0
+OnFailed (Done log) P = Unit {0}
+OnFailed Failed P = P
+OnFailed BadLog P = Unit {0}
