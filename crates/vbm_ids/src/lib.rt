@@ -1,0 +1,83 @@
+//! The identifiers of media and images: UUIDs of the custom form, version 8 (RFC 9562, 5.8), each made of a seed, a
+//! kind and a number.
+#![tactic(auto)]
+
+ghost use Rattle.std.specs.Prelude.{◌≡◌, ◌≢◌, ◌%◌, ◌<◌, ◌^◌, ℕ, drop, slice_index, MatchOption};
+ghost use Rattle.std.specs.Int.{w64, from_be_bytes};
+ghost use Rattle.uuid.specs.Uuid.{version_num};
+ghost use Rattle.uuid.specs.Parts.{variant_of};
+ghost use Rattle.uuid.specs.declared.Variant.TheVariants as Variant;
+ghost use Rattle.vbm_ids.specs.Identifier.{identifier_of, counted_in, number_in};
+
+use uuid::Uuid;
+
+/// The numbers of identifiers are below this, 2^62.
+pub const NUMBER_LIMIT: u64 = 1 << 62;
+
+// What bytes 8 to 15 hold of number 0: its two highest bits are the variant.
+const VARIANT: u64 = 1 << 63;
+
+/// What an identifier names.
+#[derive(Clone, Copy, Debug, PartialEq, Eq)]
+pub enum Kind {
+    /// A medium.
+    Medium = 0,
+    /// A modification of a medium.
+    Modify = 1,
+    /// An inner image, which belongs to a slot or a snapshot.
+    Inner = 2,
+    /// A modification of an inner image.
+    InnerModify = 3,
+}
+
+impl Kind {
+    ghost use Rattle.vbm_ids.specs.Identifier.{kind_number};
+
+    fn number(self) -> u8
+        ensures { result ≡ kind_number self }
+    {
+        self as u8
+    }
+}
+
+/// The identifier of a kind and a number, which is below 2^62.
+///
+/// For one seed, two kinds or two numbers never have the same identifier.
+#[tactic(auto, unfolding(crate::specs::Identifier::identifier_of))]
+pub fn id_of(seed: Uuid, kind: Kind, n: u64) -> Uuid
+    requires { n < 2 ^ 62 }
+    ensures bytes { result ≡ identifier_of seed kind n }
+    ensures version { version_num result ≡ 8 }
+    ensures variant { variant_of (slice_index result 8) ≡ Variant.RFC4122 }
+{
+    let mut bytes = seed.into_bytes();
+    bytes[6] = 0x80 + bytes[6] % 16;
+    bytes[7] = kind.number();
+    bytes[8..].copy_from_slice(&(VARIANT + n).to_be_bytes());
+    Uuid::from_bytes(bytes)
+}
+
+/// The number of an identifier, or `None` where it isn't one of this seed and this kind.
+#[tactic(auto, unfolding(crate::specs::Identifier::number_in))]
+pub fn number_of(seed: Uuid, kind: Kind, id: Uuid) -> Option<u64>
+    ensures exact { MatchOption result
+        ((n : ℕ) → n < 2 ^ 62 → id ≢ identifier_of seed kind n)
+        (λ n. (n < 2 ^ 62) × (id ≡ identifier_of seed kind n)) }
+    ensures defined { result ≡ number_in seed kind id }
+{
+    let n = counted(id);
+    if id == id_of(seed, kind, n) {
+        Some(n)
+    } else {
+        None
+    }
+}
+
+// The number that an identifier has, if it is one.
+fn counted(id: Uuid) -> u64
+    ensures value { result ≡ counted_in id }
+    ensures small { result < 2 ^ 62 }
+{
+    let b = id.into_bytes();
+    u64::from_be_bytes([b[8], b[9], b[10], b[11], b[12], b[13], b[14], b[15]]) % NUMBER_LIMIT
+}
