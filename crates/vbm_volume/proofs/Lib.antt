@@ -6,3 +6,5 @@ pub mod PositionLemmas
 pub mod Sectors
 pub mod TallyLemmas
 pub mod Words
+pub mod Likes
+pub mod NewImages

@@ -50,7 +50,7 @@ regroup false false c true = refl
 regroup false b c false = refl
 
 -- a list with one element more is distinct where the element is new
-is_distinct-one_more : (xs : List ℕ) (x : ℕ) → is_distinct (xs ++ x ∷ []) ≡ (is_distinct xs && not (list_any (λ y. x == y) xs))
+pub is_distinct-one_more : (xs : List ℕ) (x : ℕ) → is_distinct (xs ++ x ∷ []) ≡ (is_distinct xs && not (list_any (λ y. x == y) xs))
 is_distinct-one_more [] x = refl
 is_distinct-one_more (y ∷ ys) x =
     ap (λ a. not a && is_distinct (ys ++ x ∷ [])) (list_any-one_more (λ z. y == z) ys x)

@@ -5,3 +5,5 @@ pub mod Marks
 pub mod Positions
 pub mod Tally
 pub mod Faults
+pub mod Like
+pub mod Made

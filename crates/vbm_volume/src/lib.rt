@@ -2,15 +2,16 @@
 #![tactic(auto)]
 
 mod fault;
+mod flat;
 mod image;
+mod made;
 mod map;
 mod marks;
 mod positions;
 mod tally;
 
 pub use fault::MapFault;
+pub use flat::{Flat, Sector, Variant, Volume};
 pub use image::{read_image, read_sector};
+pub use made::new_header;
 pub use map::{check_map, read_map};
-
-/// The bytes of a sector.
-pub type Sector = [u8; 512];
