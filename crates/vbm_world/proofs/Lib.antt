@@ -1,0 +1,5 @@
+pub mod Lists
+pub mod Keeping
+pub mod Forms
+pub mod Worlds
+pub mod Stepping

@@ -1,0 +1,11 @@
+pub mod Names
+pub mod World
+pub mod Places
+pub mod Refusals
+pub mod Step
+pub mod Texts
+pub mod Lines
+pub mod Runs
+pub mod Loose
+pub mod Sound
+pub mod Seen
