@@ -1,0 +1,2 @@
+pub mod Spaces
+mod Forms

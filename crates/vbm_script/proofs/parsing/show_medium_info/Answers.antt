@@ -1,0 +1,13 @@
+use Rattle.std.proofs.Common.{ap, ◌∷◌}
+use Rattle.std.specs.Prelude.{codes}
+use Rattle.vbm_world.specs.declared.command.Command.TheVariants.{ShowMediumInfo}
+use Rattle.vbm_script.proofs.Forms.{one_item, wanting}
+use Rattle.vbm_script.proofs.parsing.show_medium_info.Goals as goal
+
+pub returns-in_err-copy-in-len1 : goal.returns-in_err-copy-in-len1
+returns-in_err-copy-in-len1 c =
+    let name = c.name-item.result in
+    let tail = one_item c.args.tail.now name c.in-len1.len_at_least c.in-len1.len_below c.name-item.is in
+    wanting _ (ShowMediumInfo name) c.in_err-copy-in-len1.field-0.0 c.from_residual.result (ap (λ words. codes "showmediuminfo" ∷ words) tail)
+    (cc (c.names_medium.ensures, c.if-names_medium.true, c.bytes.ensures)) c.in_err-copy-in-len1.ensures
+    c.from_residual.ensures.1
