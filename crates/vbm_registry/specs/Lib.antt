@@ -1,0 +1,4 @@
+pub mod Keyed
+pub mod Library
+pub mod Reading
+pub mod Stands

@@ -1,0 +1,111 @@
+//! What a library lists.
+
+ghost use Rattle.std.specs.Prelude.{◌≡◌, IfOk, IsFalse};
+ghost use Rattle.vbm_world.specs.Names.{has_name};
+ghost use Rattle.vbm_registry.specs.Library.{IsLibrary, medium_entry_name, with_entry, without_entry};
+
+use crate::media::{Media, Medium};
+use std::alloc::Global;
+use uuid::Uuid;
+use vbm_machines::Machines;
+use vbm_ports::{Copied, NoMemory, Sequence, Text};
+
+/// An image of the store.
+#[derive(Clone, Copy, Debug, PartialEq, Eq)]
+pub enum ImageRef {
+    /// The image of the medium at this place of the library's list.
+    Medium(u32),
+    /// The inner image of this number.
+    Inner(u64),
+}
+
+/// An inner image, and the image that it stands on.
+#[derive(Clone, Copy, Debug, PartialEq, Eq)]
+pub struct Inner {
+    pub number: u64,
+    pub parent: ImageRef,
+}
+
+impl Copied for Inner {
+    fn copied(&self, _alloc: Global) -> Result<Inner, NoMemory> {
+        Ok(*self)
+    }
+}
+
+/// Inner images, in the order of their numbers.
+pub type Inners = Sequence<Inner>;
+
+/// An inner image that is being merged with the image below it, which gets a number of its own.
+#[derive(Clone, Copy, Debug, PartialEq, Eq)]
+pub struct Merging {
+    pub parent: ImageRef,
+    pub child: u64,
+    pub number: u64,
+}
+
+impl Copied for Merging {
+    fn copied(&self, _alloc: Global) -> Result<Merging, NoMemory> {
+        Ok(*self)
+    }
+}
+
+/// Merges that have begun.
+pub type Mergings = Sequence<Merging>;
+
+/// All that a store lists.
+#[derive(Drop)]
+pub struct Library {
+    /// The seed of the store's identifiers.
+    pub seed: Uuid,
+    /// How many identifiers of media were drawn.
+    pub next: u64,
+    /// How many identifiers of inner images were drawn.
+    pub inner: u64,
+    pub media: Media,
+    pub inners: Inners,
+    pub machines: Machines,
+    /// The name of the file that is being made.
+    pub making: Option<Text>,
+    pub merging: Mergings,
+}
+
+impl Copied for Library {
+    fn copied(&self, alloc: Global) -> Result<Library, NoMemory> {
+        let making = match &self.making {
+            Some(name) => Some(name.copied(alloc)?),
+            None => None,
+        };
+        Ok(Library {
+            seed: self.seed,
+            next: self.next,
+            inner: self.inner,
+            media: self.media.copied(alloc)?,
+            inners: self.inners.copied(alloc)?,
+            machines: self.machines.copied(alloc)?,
+            making,
+            merging: self.merging.copied(alloc)?,
+        })
+    }
+}
+
+impl Library {
+    /// A copy with one more medium, in its place.
+    pub fn with_medium(&self, alloc: Global, medium: Medium) -> Result<Library, NoMemory>
+        requires sound { IsLibrary self.now }
+        requires another { IsFalse (has_name medium_entry_name medium.name self.now.media) }
+        ensures { IfOk result (λ l. l ≡ with_entry self.now medium) }
+    {
+        let mut library = self.copied(alloc)?;
+        library.media.insert(medium)?;
+        Ok(library)
+    }
+
+    /// A copy without the medium of a name.
+    pub fn without_medium(&self, alloc: Global, name: &[u8]) -> Result<Library, NoMemory>
+        ensures { IfOk result (λ l. l ≡ without_entry self.now name.now) }
+    {
+        let mut library = self.copied(alloc)?;
+        library.media.remove(name);
+        Ok(library)
+    }
+}
