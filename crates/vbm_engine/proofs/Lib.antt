@@ -1,0 +1,11 @@
+mod Creating
+mod Making
+mod Planned
+mod Pushing
+pub mod Openings
+pub mod Readiness
+pub mod Turning
+mod Asks
+mod Closes
+mod Decisions
+mod Registers

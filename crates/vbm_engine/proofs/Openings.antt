@@ -1,0 +1,201 @@
+-- Opening a store.
+use Rattle.std.proofs.Common.{◌≡◌, ◌≢◌, ℕ, ◌+◌, ◌^◌, ◌<◌, ◌≤◌, min, Bool, true, false, cond, List, [], ◌∷◌, ◌++◌, map, length, take, drop, get_or, Option, Some, None, Result, Ok, Err, refl, sym, ap, subst, ◌∙◌, arith, inl, inr, length-take}
+use Rattle.std.specs.Prelude.{nat_eq, ◌||◌}
+use Rattle.std.specs.List.{starts_with, list_any}
+use Rattle.std.specs.Str.{bytes_eq}
+use Rattle.std.proofs.lemmas.Bool.{cases_lt, lt-ltb}
+use Rattle.std.proofs.lemmas.List.{take_all, drop_all, take-take, take-append-le, drop_more, map_push, map_more}
+use Rattle.vbm_ports.specs.Files.{Files, bytes_of, Reads}
+use Rattle.vbm_ports.specs.Crash.{Only}
+use Rattle.vbm_ports.specs.Disk.{DiskState, Passes, OnlyReads}
+use Rattle.vbm_ports.proofs.States.{Passes-trans, Passes-weaker}
+use Rattle.vbm_intent.specs.Changes.{log_name}
+use Rattle.vbm_intent.specs.Log.{IsShut, IsLikeRedone, RedoesTo}
+use Rattle.vbm_header.specs.declared.Header.{Header}
+use Rattle.vbm_header.specs.Header.{fields}
+use Rattle.vbm_volume.proofs.Likes.{image_fields}
+use Rattle.vbm_world.specs.Names.{Name}
+use Rattle.vbm_world.specs.Loose.{Unsettled}
+use Rattle.vbm_world.proofs.Lists.{name_sym}
+use Rattle.vbm_registry.specs.declared.media.Medium.{Medium}
+use Rattle.vbm_registry.specs.declared.library.Library.{Library}
+use Rattle.vbm_registry.specs.declared.fault.BadStore.{BadStore}
+use Rattle.vbm_registry.specs.declared.fault.BadStore.TheVariants.{SameId}
+use Rattle.vbm_registry.specs.Library.{head}
+use Rattle.vbm_registry.specs.Reading.{library_in}
+use Rattle.vbm_registry.specs.Stands.{library_file, library_of, read_library, header_in, header_fault, image_fault, file_fault, own_fault, id_in, first_fault, same_id_fault, media_fault, held_by, Stands}
+use Rattle.vbm_registry.proofs.Stores.{held_if_store, store_if_no_fault, stands_redone, stands_alike, stands_once, stands_shut}
+use Rattle.vbm_engine.specs.declared.engine.Image.{Image}
+use Rattle.vbm_engine.specs.declared.engine.Opened.{Opened}
+use Rattle.vbm_engine.specs.declared.engine.Opened.TheVariants as opened
+use Rattle.vbm_engine.specs.Serves.{serves, image_in, Holds, IsReady}
+use Rattle.vbm_engine.specs.Recovers.{IsSettled}
+use Rattle.vbm_engine.specs.Opens.{StandsAlike, Opens, AreRedone}
+use Rattle.vbm_engine.specs.Images.{IsRead}
+use Rattle.vbm_engine.specs.declared.opening.Unopened.{Unopened}
+use Rattle.vbm_engine.specs.declared.opening.Unopened.TheVariants.{Bad, Failed, NoMemory}
+use Rattle.vbm_engine.specs.Parts.{Finds, ids_of, fault_behind, OpensOf}
+use Rattle.vbm_engine.proofs.Readiness.{settled_ready}
+
+-- ---- the library's file
+
+starts_take : (f : List ℕ) (n : ℕ) → 8 ≤ n → starts_with nat_eq (take n f) head ≡ starts_with nat_eq f head
+starts_take f n long = ap (bytes_eq head) (take-take 8 n f long)
+
+-- a file that is too long is refused by its first bytes
+library_front : (f : List ℕ) (n : ℕ) → n ≡ min (length f) (2 ^ 20 + 1) → library_in (take n f) ≡ library_in f
+unfolding library_in
+library_front f n is = elim (cases_lt (2 ^ 20) (length f)) [
+  | inl long ↦
+      let whole : length (take n f) ≡ 2 ^ 20 + 1 = omega (arith, length-take n f) in
+      rw (starts_take f n (omega arith), lt-ltb (2 ^ 20) (length (take n f)) (omega arith), lt-ltb (2 ^ 20) (length f) long) refl
+  | inr short ↦ ap library_in (take_all n f (omega arith))
+]
+
+pub front_read : (file : Option (List ℕ)) (old new : List ℕ) (n : ℕ) → file ≢ None → length old ≡ min (length (bytes_of file)) (2 ^ 20 + 1)
+    → Reads (bytes_of file) 0 old new n → read_library (library_in (take n new)) ≡ library_file file
+front_read None old new n there long reads = absurd (there refl)
+front_read (Some f) old new n there long reads =
+    let some : n ≤ length (take (length old) f) = omega (arith, reads.count) in
+    let front : take n new ≡ take (length old) f =
+    ap (take n) reads.buffer ∙ take-append-le n (take (length old) f) (drop n old) some ∙ take_all n (take (length old) f) (omega (arith, reads.count)) in
+    ap (λ bytes. read_library (library_in bytes)) front ∙ ap read_library (library_front f (length old) long)
+
+-- ---- the images, one after the other
+
+finds_weaker : {X : Type 0} (P R : X → Type 0) (Q S : BadStore → Type 0) → ((x : X) → P x → R x) → ((bad : BadStore) → Q bad → S bad)
+    → (r : Result X Unopened) → Finds P Q r → Finds R S r
+finds_weaker P R Q S found fault (Ok x) finds = found x finds
+finds_weaker P R Q S found fault (Err (Bad bad)) finds = fault bad finds
+finds_weaker P R Q S found fault (Err Failed) finds = tt
+finds_weaker P R Q S found fault (Err NoMemory) finds = tt
+
+read_as : (l : Library) (name : Name) (file : Option (List ℕ)) (h : Header) → IsRead file (Ok h)
+    → (file_fault l name file ≡ header_fault l name h) × (h ≡ fields (bytes_of file))
+read_as l name None h read = absurd read
+read_as l name (Some f) h read = (ap (image_fault l name) read, image_fields f h read)
+
+pub medium_read : (l : Library) (files : Files) (m : Medium) (image : Image) → image.name ≡ m.name → IsRead (files m.name) (Ok image.header)
+    → (r : Result Image Unopened)
+    → Finds (λ accepted. (header_fault l image.name image.header ≡ None) × (accepted ≡ image)) (λ bad. header_fault l image.name image.header ≡ Some bad) r
+    → Finds (λ accepted. (own_fault l files m ≡ None) × (accepted ≡ image_in files m)) (λ bad. own_fault l files m ≡ Some bad) r
+unfolding header_in
+medium_read l files m image name read r =
+    let is = read_as l m.name (files m.name) image.header read in
+    let own : own_fault l files m ≡ header_fault l image.name image.header = is.0 ∙ ap (λ n. header_fault l n image.header) (sym name) in
+    let same : image ≡ image_in files m = λ i. record { name = name i; header = is.1 i } in
+    finds_weaker _ _ _ _ (λ accepted fine. (own ∙ fine.0, fine.1 ∙ same)) (λ bad some. own ∙ some) r
+
+first_of_three : (a b c : Option BadStore) → first_fault a (first_fault b c) ≡ first_fault (first_fault a b) c
+first_of_three None b c = refl
+first_of_three (Some bad) b c = refl
+
+any_end : {X : Type 0} (p : X → Bool) (xs : List X) (y : X) → list_any p (xs ++ y ∷ []) ≡ (p y || list_any p xs)
+any_end p [] y = refl
+any_end p (x ∷ xs) y = ap (λ b. p x || b) (any_end p xs y) ∙ or_swap (p y) (p x) (list_any p xs)
+  where
+    or_swap : (a b c : Bool) → (b || (a || c)) ≡ (a || (b || c))
+    or_swap true true c = refl
+    or_swap true false c = refl
+    or_swap false b c = refl
+
+pub any_id : (id : List ℕ) (images : List Image) → list_any (λ (image : Image). bytes_eq image.header.id id) images ≡ list_any (bytes_eq id) (ids_of images)
+any_id id [] = refl
+any_id id (image ∷ images) = rw (name_sym image.header.id id, any_id id images) refl
+
+-- The images of the media before this place; the first fault of the others is that of all.
+pub record Opening (l : Library) (files : Files) (i : ℕ) (images : List Image) : Type 0 where
+  pub is : images ≡ map (image_in files) (take i l.media)
+  pub earlier : List (List ℕ)
+  pub same : (id : List ℕ) → list_any (bytes_eq id) earlier ≡ list_any (bytes_eq id) (ids_of images)
+  pub rest : media_fault l files earlier (drop i l.media) ≡ media_fault l files [] l.media
+
+pub opening_starts : (l : Library) (files : Files) → Opening l files 0 []
+opening_starts l files = record { is = refl; earlier = []; same = λ id. refl; rest = refl }
+
+module _ (l : Library) (files : Files) (i : ℕ) (images : List Image) (m : Medium) (lt : i < length l.media) (at : m ≡ get_or l.media i m)
+    (so_far : Opening l files i images) where
+  abbrev later : Option BadStore
+  later = media_fault l files (id_in files m ∷ so_far.earlier) (drop (i + 1) l.media)
+
+  next_fault : first_fault (fault_behind l files (ids_of images) m) later ≡ media_fault l files [] l.media
+  next_fault =
+      sym (first_of_three (own_fault l files m) (same_id_fault (ids_of images) m.name (id_in files m)) later)
+      ∙ ap (λ b. first_fault (own_fault l files m) (first_fault (cond b (Some (SameId m.name)) None) later)) (sym (so_far.same (id_in files m)))
+      ∙ ap (λ (n : Medium). media_fault l files so_far.earlier (n ∷ drop (i + 1) l.media)) at
+      ∙ ap (media_fault l files so_far.earlier) (sym (drop_more l.media i m lt))
+      ∙ so_far.rest
+
+  pub opening_goes_on : fault_behind l files (ids_of images) m ≡ None → Opening l files (i + 1) (images ++ image_in files m ∷ [])
+  opening_goes_on none = record {
+    is = ap (λ (xs : List Image). xs ++ image_in files m ∷ []) so_far.is
+        ∙ ap (λ (n : Medium). map (image_in files) (take i l.media) ++ image_in files n ∷ []) at
+        ∙ sym (map_more (image_in files) l.media i m lt);
+    earlier = id_in files m ∷ so_far.earlier;
+    same = λ id.
+        ap (λ b. bytes_eq id (id_in files m) || b) (so_far.same id)
+        ∙ sym (any_end (bytes_eq id) (ids_of images) (id_in files m))
+        ∙ ap (list_any (bytes_eq id)) (sym (map_push (λ (image : Image). image.header.id) images (image_in files m)));
+    rest = ap (λ o. first_fault o later) (sym none) ∙ next_fault;
+  }
+
+  pub opening_stops : (bad : BadStore) → fault_behind l files (ids_of images) m ≡ Some bad → media_fault l files [] l.media ≡ Some bad
+  opening_stops bad some = sym next_fault ∙ ap (λ o. first_fault o later) some
+
+pub opening_ends : (l : Library) (files : Files) (i : ℕ) (images : List Image) → length l.media ≤ i → Opening l files i images
+    → (media_fault l files [] l.media ≡ None) × (images ≡ map (image_in files) l.media)
+opening_ends l files i images past so_far = (
+  sym so_far.rest ∙ ap (media_fault l files so_far.earlier) (drop_all i l.media past),
+  so_far.is ∙ ap (map (image_in files)) (take_all i l.media past),
+)
+
+pub holds_from : (tells : Type 0) (told : tells) (old new : DiskState) → OnlyReads tells old new → (l : Library) (images : List Image) → library_of old.files ≡ Ok l
+    → (media_fault l new.files [] l.media ≡ None) × (images ≡ map (image_in new.files) l.media) → Holds l images old.files
+holds_from tells told old new reads l images read opened =
+    let here = subst (λ f. (media_fault l f [] l.media ≡ None) × (images ≡ map (image_in f) l.media)) (reads.files told) opened in
+    record { read = read; store = store_if_no_fault l old.files here.0; headers = here.1 }
+
+-- ---- what the files stand for
+
+pub alike_passes : (old new : DiskState) → Passes old new (IsLikeRedone old.files) → Passes old new (StandsAlike old.files)
+alike_passes old new time = Passes-weaker old new _ _ time (λ image like held. stands_alike old.files image held like)
+
+-- what files held before redo they hold after it
+after_redo : (old new : Files) → RedoesTo new old → IsShut (new log_name) → StandsAlike old new
+after_redo old new to shut held stands = stands_shut new held shut (stands_once old (held_by new) held (stands_redone new old (held_by new) to refl) stands)
+
+pub opens_since : (old mid new : DiskState) (r : Opened) → mid.files ≡ old.files → Opens mid new r → Opens old new r
+opens_since old mid new (opened.Open e) same opens =
+    subst (λ f. Stands f (Ok (serves e new.files)) × RedoesTo new.files f × ((u : Unsettled) → IsReady e new u)) same opens
+opens_since old mid new (opened.Refused bad) same opens = subst (λ f. Stands f (Err bad) × AreRedone f new.files) same opens
+opens_since old mid new opened.Fault same opens = tt
+opens_since old mid new opened.NoMemory same opens = subst (λ f. StandsAlike f new.files) same opens
+
+-- the log is redone, and then the disk is only read
+module _ (tells : Type 0) (told : tells) (old mid new : DiskState) (redoes : RedoesTo mid.files old.files) (settled : IsSettled mid)
+    (reads : OnlyReads tells mid new) (now : new.may_leave new.files) where
+  redone_now : RedoesTo new.files old.files
+  redone_now = subst (λ f. RedoesTo f old.files) (sym (reads.files told)) redoes
+
+  only_now : Only new.files new.may_leave
+  only_now image may = settled.only image (reads.images image may) ∙ sym (reads.files told)
+
+  alike_now : StandsAlike old.files new.files
+  alike_now = after_redo old.files new.files redone_now (settled.shut new.files (reads.images new.files now))
+
+  opens_now : (r : Opened) → OpensOf new.files r → Opens old new r
+  opens_now (opened.Open e) holds = (
+    stands_redone new.files old.files _ redone_now (held_if_store e.library new.files holds.read holds.store),
+    redone_now,
+    (settled_ready e new holds only_now (λ image may. settled.shut image (reads.images image may)) now).1,
+  )
+  opens_now (opened.Refused bad) held = (stands_redone new.files old.files (Err bad) redone_now held, inl redone_now)
+  opens_now opened.Fault t = tt
+  opens_now opened.NoMemory t = alike_now
+
+  pub redone_opens : (r : Opened) → OpensOf mid.files r → Opens old new r
+  redone_opens r of = opens_now r (subst (λ f. OpensOf f r) (sym (reads.files told)) of)
+
+  pub redone_passes : Passes old mid (IsLikeRedone old.files) → Passes old new (StandsAlike old.files)
+  redone_passes time = Passes-trans old mid new _ _ _ time reads.time (λ image like held. stands_alike old.files image held like)
+      (λ image may. subst (StandsAlike old.files) (sym (settled.only image may ∙ sym (reads.files told))) alike_now)

@@ -1,0 +1,8 @@
+use Rattle.std.proofs.Common.{sym, subst}
+use Rattle.vbm_registry.specs.Library.{IsLibrary}
+use Rattle.vbm_registry.proofs.Stores.{library_without}
+use Rattle.vbm_engine.proofs.close.close_entry.Goals as goal
+
+pub plan_closing-requires-clause-library : goal.plan_closing-requires-clause-library
+plan_closing-requires-clause-library c =
+    subst IsLibrary (sym c.in_ok-library.ensures) (library_without c.args.engine.now.library c.args.name.now c.requires.library)

@@ -1,0 +1,15 @@
+use Rattle.std.proofs.Common.{Ok, sym, subst}
+use Rattle.std.proofs.lemmas.Result.{on_ok_weaker}
+use Rattle.vbm_world.specs.World.{off}
+use Rattle.vbm_registry.specs.Stands.{Stands}
+use Rattle.vbm_engine.specs.Serves.{serves}
+use Rattle.vbm_engine.proofs.Readiness.{fits_stands}
+use Rattle.vbm_engine.proofs.engine.Engine.close.Goals as goal
+
+pub returns-clause-stands : goal.returns-clause-stands
+returns-clause-stands g c told =
+    let old = g.D.Disk.state c.args.disk.now in
+    let here = fits_stands c.args.self old (c.requires.fits told) ((g.met.D.Disk.coherent c.args.disk.now).read_is_image told) in
+    on_ok_weaker c.sync.result
+    (λ settled. subst (λ f. Stands f (Ok (off (serves c.args.self old.files)))) (sym (c.sync.ensures.reads.files told)) here)
+    (c.sync.ensures.settled told)

@@ -1,0 +1,6 @@
+use Rattle.vbm_engine.proofs.Openings.{holds_from}
+use Rattle.vbm_engine.proofs.opening.load.Goals as goal
+
+pub returns-clause-told : goal.returns-clause-told
+returns-clause-told g c = λ told.
+    holds_from _ told _ _ c.load_library.ensures.reads c.in_ok-library.library c.in_ok-images.images (c.in_ok-library.ensures.told told) (c.in_ok-images.ensures.told told)

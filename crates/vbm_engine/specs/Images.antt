@@ -1,0 +1,21 @@
+-- What opening an image answers.
+use Rattle.std.specs.Prelude.{◌≡◌, ℕ, List, Option, Some, None, Result, Ok, Err}
+use Rattle.vbm_header.specs.declared.Header.{Header}
+use Rattle.vbm_header.specs.declared.BadImage.{BadImage}
+use Rattle.vbm_volume.specs.Image.{image_of}
+use Rattle.vbm_engine.specs.declared.engine.Image.{Image}
+use Rattle.vbm_engine.specs.declared.image.OpenFault.{OpenFault}
+use Rattle.vbm_engine.specs.declared.image.OpenFault.TheVariants as faults
+
+-- a file that is read as an image, or as none
+abbrev pub IsRead : Option (List ℕ) → Result Header BadImage → Type 0
+IsRead None read = ⊥
+IsRead (Some f) read = image_of f ≡ read
+
+-- The header is that of the file; a fault says what the file is, but for those of the disk and of memory.
+abbrev pub OpensImage : Result Image OpenFault → Option (List ℕ) → Type 0
+OpensImage (Ok image) file = IsRead file (Ok image.header)
+OpensImage (Err faults.Missing) file = file ≡ None
+OpensImage (Err (faults.Bad bad)) file = IsRead file (Err bad)
+OpensImage (Err faults.Failed) file = Unit {0}
+OpensImage (Err faults.NoMemory) file = Unit {0}

@@ -1,0 +1,12 @@
+pub mod Keeps
+pub mod Serves
+pub mod Steps
+pub mod Opens
+pub mod Plans
+pub mod Images
+pub mod Creates
+pub mod Inits
+pub mod Recovers
+pub mod Parts
+pub mod Closes
+pub mod Registers

@@ -1,0 +1,90 @@
+-- What opening a store gives, and what making one does.
+use Rattle.std.specs.Prelude.{◌≡◌, ◌≢◌, ◌⊎◌, ℕ, List, [], None, Result, Ok, Err}
+use Rattle.vbm_ports.specs.Files.{Files}
+use Rattle.vbm_ports.specs.Disk.{DiskState}
+use Rattle.vbm_ports.specs.Crash.{Only}
+use Rattle.vbm_intent.specs.Changes.{log_name}
+use Rattle.vbm_intent.specs.Log.{Redo, RedoesTo, IsBadLog, SameBesidesLog}
+use Rattle.vbm_world.specs.Names.{Name}
+use Rattle.vbm_world.specs.World.{World}
+use Rattle.vbm_world.specs.Loose.{Unsettled}
+use Rattle.vbm_registry.specs.declared.library.Library.{Library}
+use Rattle.vbm_registry.specs.declared.fault.BadStore.{BadStore}
+use Rattle.vbm_registry.specs.declared.fault.BadStore.TheVariants.{BadLog}
+use Rattle.vbm_registry.specs.Library.{library_name}
+use Rattle.vbm_registry.specs.Stands.{Stands, world_with, none_changed}
+use Rattle.vbm_engine.specs.declared.engine.Opened.{Opened}
+use Rattle.vbm_engine.specs.declared.engine.Opened.TheVariants as opened
+use Rattle.vbm_engine.specs.declared.engine.Made.{Made}
+use Rattle.vbm_engine.specs.declared.engine.Made.TheVariants as made
+use Rattle.vbm_engine.specs.Serves.{serves, IsSoundEngine, IsReady}
+
+-- the files after redo, the log aside, or as they were where the log is bad
+abbrev pub AreRedone : Files → Files → Type 0
+AreRedone files now = RedoesTo now files ⊎ (IsBadLog files × (now ≡ files))
+
+-- an image stands for what the files stand for
+abbrev pub StandsAlike : Files → Files → Type 0
+StandsAlike files image = (held : Result World BadStore) → Stands files held → Stands image held
+
+-- The engine serves what the files stood for, or the store is refused with its first fault; without memory it stands for the same.
+abbrev pub Opens : DiskState → DiskState → Opened → Type 0
+Opens old new (opened.Open e) =
+    Stands old.files (Ok (serves e new.files)) × RedoesTo new.files old.files × ((u : Unsettled) → IsReady e new u)
+Opens old new (opened.Refused bad) = Stands old.files (Err bad) × AreRedone old.files new.files
+Opens old new opened.Fault = Unit {0}
+Opens old new opened.NoMemory = StandsAlike old.files new.files
+
+abbrev pub OpensSound : Opened → Type 0
+OpensSound (opened.Open e) = IsSoundEngine e
+OpensSound (opened.Refused bad) = Unit {0}
+OpensSound opened.Fault = Unit {0}
+OpensSound opened.NoMemory = Unit {0}
+
+abbrev pub OnFault : Opened → Type 0 → Type 0
+OnFault (opened.Open e) P = Unit {0}
+OnFault (opened.Refused bad) P = Unit {0}
+OnFault opened.Fault P = P
+OnFault opened.NoMemory P = Unit {0}
+
+-- a library with this seed and nothing in it
+abbrev pub empty_library : List ℕ → Library
+empty_library seed = record { seed = seed; next = 0; inner = 0; media = []; inners = []; machines = []; making = None; merging = [] }
+
+-- the world of a new store over files: nothing but the shelf
+abbrev pub new_world : List ℕ → Files → World
+new_world seed files = world_with none_changed (empty_library seed) files
+
+-- A library is made over what redo gives of the files: every other file but the log is as there.
+pub record IsMade (seed : List ℕ) (files : Files) (new : DiskState) : Type 0 where
+  pub redone : Files
+  pub redo : Redo files redone
+  pub absent : redone library_name ≡ None
+  pub stands : Stands new.files (Ok (new_world seed redone))
+  pub others : (name : Name) → name ≢ log_name → name ≢ library_name → new.files name ≡ redone name
+  pub settled : Only new.files new.may_leave
+
+-- There was a library: nothing but the log changed, after redo.
+pub record IsThere (files now : Files) : Type 0 where
+  pub redone : Files
+  pub redo : Redo files redone
+  pub there : redone library_name ≢ None
+  pub same : SameBesidesLog now redone
+
+abbrev pub Makes : List ℕ → DiskState → DiskState → Made → Type 0
+Makes seed old new made.Done = IsMade seed old.files new
+Makes seed old new (made.Refused bad) = (bad ≡ BadLog) × IsBadLog old.files × (new.files ≡ old.files)
+Makes seed old new made.There = IsThere old.files new.files
+Makes seed old new made.Failed = Unit {0}
+Makes seed old new made.NoMemory = Unit {0}
+
+abbrev pub OnMadeFailed : Made → Type 0 → Type 0
+OnMadeFailed made.Done P = Unit {0}
+OnMadeFailed (made.Refused bad) P = Unit {0}
+OnMadeFailed made.There P = Unit {0}
+OnMadeFailed made.Failed P = P
+OnMadeFailed made.NoMemory P = Unit {0}
+
+-- an image of the new store
+abbrev pub StandsNew : List ℕ → Files → Files → Type 0
+StandsNew seed files image = (redone : Files) × Redo files redone × Stands image (Ok (new_world seed redone))

@@ -1,0 +1,105 @@
+//! Closing media.
+
+ghost use Rattle.std.specs.Prelude.{◌≡◌, ◌++◌, IfOk, IsTrue};
+ghost use Rattle.vbm_ports.specs.Files.{Files};
+ghost use Rattle.vbm_ports.specs.Names.{is_medium_name};
+ghost use Rattle.vbm_registry.specs.Library.{medium_entry_name, without_entry, IsLibrary};
+ghost use Rattle.vbm_world.specs.Names.{has_name, without};
+ghost use Rattle.vbm_world.specs.declared.command.Command.TheVariants.{CloseMedium};
+ghost use Rattle.vbm_engine.specs.Closes.{removal};
+ghost use Rattle.vbm_engine.specs.Plans.{library_changes};
+ghost use Rattle.vbm_engine.specs.Serves.{image_name, IsSoundEngine, Holds};
+ghost use Rattle.vbm_engine.specs.Steps.{Decides, DecidesSound, OnFailed};
+
+use crate::engine::{Decided, Engine, Images};
+use crate::plans::plan_library;
+use std::alloc::Global;
+use vbm_intent::{Change, Plan};
+use vbm_ports::{NoMemory, Text};
+use vbm_registry::Library;
+use vbm_world::names::without;
+use vbm_world::{Answer, Refusal};
+
+// Removes the file of a name, where it is asked for.
+fn plan_removal(alloc: Global, name: &[u8], delete: bool) -> Result<Plan, NoMemory>
+    requires name { IsTrue (is_medium_name name.now) }
+    ensures { IfOk result (λ plan. plan.changes ≡ removal name.now delete) }
+{
+    let mut plan = Plan::new(alloc);
+    if delete {
+        let name = Text::new(alloc, name)?;
+        plan.push(Change::Remove { name })?;
+    }
+    Ok(plan)
+}
+
+fn plan_closing(
+    alloc: Global,
+    library: &Library,
+    name: &[u8],
+    delete: bool,
+) -> Result<Plan, NoMemory>
+    requires library { IsLibrary library.now }
+    requires name { IsTrue (is_medium_name name.now) }
+    ensures { IfOk result (λ plan. plan.changes ≡ removal name.now delete ++ library_changes library.now) }
+{
+    let mut plan = plan_removal(alloc, name, delete)?;
+    plan_library(alloc, &mut plan, library)?;
+    Ok(plan)
+}
+
+// The library and the images without the medium, and the plan.
+fn close_entry(
+    alloc: Global,
+    engine: &Engine,
+    name: &[u8],
+    delete: bool,
+) -> Result<(Library, Images, Plan), NoMemory>
+    requires library { IsLibrary engine.now.library }
+    requires name { IsTrue (is_medium_name name.now) }
+    ensures library { IfOk result (λ x. x.0 ≡ without_entry engine.now.library name.now) }
+    ensures images { IfOk result (λ x. x.1 ≡ without image_name name.now engine.now.images) }
+    ensures plan { IfOk result (λ x. x.2.changes
+        ≡ removal name.now delete ++ library_changes (without_entry engine.now.library name.now)) }
+{
+    let library = engine.library.without_medium(alloc, name)?;
+    let images = without(alloc, engine.images.as_slice(), name)?;
+    let plan = plan_closing(alloc, &library, name, delete)?;
+    Ok((library, images, plan))
+}
+
+// Closes a medium that there is. No machine has it yet.
+fn close_found(alloc: Global, engine: &Engine, name: &[u8], delete: bool) -> Decided
+    requires sound { IsSoundEngine engine.now }
+    requires name { IsTrue (is_medium_name name.now) }
+    requires found { IsTrue (has_name medium_entry_name name.now engine.now.library.media) }
+    ensures decides { (files : Files) → Holds engine.now.library engine.now.images files
+        → Decides files engine.now (CloseMedium name.now delete) result }
+    ensures sound { DecidesSound result }
+    ensures cause { OnFailed result ⊥ }
+{
+    match close_entry(alloc, engine, name, delete) {
+        Ok((library, images, plan)) => Decided::Turn {
+            library,
+            images,
+            plan,
+            answer: Answer::Done,
+        },
+        Err(NoMemory) => Decided::NoMemory,
+    }
+}
+
+/// Decides `closemedium`, without the disk.
+pub(crate) fn decide_close(alloc: Global, engine: &Engine, name: &[u8], delete: bool) -> Decided
+    requires sound { IsSoundEngine engine.now }
+    requires name { IsTrue (is_medium_name name.now) }
+    ensures decides { (files : Files) → Holds engine.now.library engine.now.images files
+        → Decides files engine.now (CloseMedium name.now delete) result }
+    ensures sound { DecidesSound result }
+    ensures cause { OnFailed result ⊥ }
+{
+    match engine.library.media.find(name) {
+        Some(_) => close_found(alloc, engine, name, delete),
+        None => Decided::Stay(Answer::Refused(Refusal::NoSuchMedium)),
+    }
+}

@@ -1,0 +1,35 @@
+//! The images of an engine, in the order of their names.
+
+ghost use Rattle.std.specs.Prelude.{◌≡◌, IfOk};
+ghost use Rattle.vbm_world.specs.Names.{put_by};
+ghost use Rattle.vbm_engine.specs.Serves.{image_name};
+
+use crate::engine::{Image, Images};
+use std::alloc::Global;
+use vbm_ports::NoMemory;
+use vbm_world::Duplicate;
+use vbm_world::names::{self, Named};
+
+impl Duplicate for Image {
+    fn duplicate(&self, alloc: Global) -> Result<Image, NoMemory> {
+        Ok(Image {
+            name: self.name.duplicate(alloc)?,
+            header: self.header,
+        })
+    }
+}
+
+impl Named for Image {
+    ghost named = { image_name };
+
+    fn name(&self) -> &[u8] {
+        self.name.bytes()
+    }
+}
+
+/// A copy with one more image, in its place.
+pub(crate) fn with_image(alloc: Global, images: &Images, image: Image) -> Result<Images, NoMemory>
+    ensures { IfOk result (λ all. all ≡ put_by image_name image images.now) }
+{
+    names::with(alloc, images.as_slice(), image)
+}

@@ -1,0 +1,189 @@
+//! Opening media: a file of the shelf becomes a medium.
+
+ghost use Rattle.std.specs.Prelude.{◌≡◌, false, None, Ok, IfOk, IsTrue, IsFalse};
+ghost use Rattle.std.specs.List.{list_any};
+ghost use Rattle.std.specs.Str.{bytes_eq};
+ghost use Rattle.vbm_ports.specs.Counts.{Rose};
+ghost use Rattle.vbm_ports.specs.Disk.{OnlyReads};
+ghost use Rattle.vbm_ports.specs.Files.{Files};
+ghost use Rattle.vbm_ports.specs.Names.{is_medium_name};
+ghost use Rattle.vbm_registry.specs.Library.{medium_entry_name, with_entry, IsLibrary};
+ghost use Rattle.vbm_world.specs.Names.{has_name, put_by};
+ghost use Rattle.vbm_world.specs.Refusals.{first_refusal};
+ghost use Rattle.vbm_world.specs.declared.command.Command.TheVariants.{OpenMedium};
+ghost use Rattle.vbm_engine.specs.Images.{IsRead};
+ghost use Rattle.vbm_engine.specs.Plans.{library_changes};
+ghost use Rattle.vbm_engine.specs.Registers.{image_checks, opened_entry};
+ghost use Rattle.vbm_engine.specs.Serves.{image_name, IsSoundEngine, Holds, FitsDisk};
+ghost use Rattle.vbm_engine.specs.Steps.{Decides, DecidesSound, OnFailed};
+
+use crate::engine::{Decided, Engine, Image, Images};
+use crate::foreign::is_foreign_id;
+use crate::image::{OpenFault, open_image};
+use crate::images::with_image;
+use crate::plans::plan_library;
+use std::alloc::Global;
+use uuid::Uuid;
+use vbm_header::Header;
+use vbm_intent::Plan;
+use vbm_modes::Mode;
+use vbm_ports::{Disk, NoMemory, Text};
+use vbm_registry::{Library, Medium};
+use vbm_world::{Answer, MEDIA_LIMIT, Refusal, Which};
+
+fn has_id(images: &[Image], id: Uuid) -> bool
+    ensures { result ≡ list_any (λ (i : Image). bytes_eq i.header.id id) images.now }
+{
+    images.iter().any(|image| image.header.id == id)
+}
+
+fn id_of(image: &Image) -> Uuid
+    ensures { result ≡ image.now.header.id }
+{
+    image.header.id
+}
+
+// Why an accepted image is refused.
+fn image_refusal(engine: &Engine, header: &Header) -> Option<Refusal>
+    ensures { result ≡ first_refusal (image_checks engine.now.library engine.now.images header.now) }
+{
+    if has_id(engine.images.as_slice(), header.id) {
+        return Some(Refusal::DuplicateId);
+    }
+    if is_foreign_id(&engine.library, header.id) {
+        return Some(Refusal::ForeignId);
+    }
+    if engine.library.media.len() >= MEDIA_LIMIT {
+        return Some(Refusal::Full(Which::Media));
+    }
+    if header.image_type.is_differencing() {
+        return Some(Refusal::BrokenChain(0));
+    }
+    None
+}
+
+fn library_with(alloc: Global, library: &Library, name: &[u8]) -> Result<Library, NoMemory>
+    requires sound { IsLibrary library.now }
+    requires free { IsFalse (has_name medium_entry_name name.now library.now.media) }
+    ensures { IfOk result (λ l. l ≡ with_entry library.now (opened_entry name.now)) }
+{
+    let name = Text::new(alloc, name)?;
+    library.with_medium(
+        alloc,
+        Medium {
+            name,
+            mode: Mode::Normal,
+        },
+    )
+}
+
+fn library_plan(alloc: Global, library: &Library) -> Result<Plan, NoMemory>
+    requires { IsLibrary library.now }
+    ensures { IfOk result (λ plan. plan.changes ≡ library_changes library.now) }
+{
+    let mut plan = Plan::new(alloc);
+    plan_library(alloc, &mut plan, library)?;
+    Ok(plan)
+}
+
+// The library and the images with the medium, and the plan.
+fn add_entry(
+    alloc: Global,
+    engine: &Engine,
+    image: Image,
+) -> Result<(Library, Images, Plan), NoMemory>
+    requires sound { IsLibrary engine.now.library }
+    requires free { IsFalse (has_name medium_entry_name image.name engine.now.library.media) }
+    requires grown { IsLibrary (with_entry engine.now.library (opened_entry image.name)) }
+    ensures library { IfOk result (λ x. x.0 ≡ with_entry engine.now.library (opened_entry image.name)) }
+    ensures images { IfOk result (λ x. x.1 ≡ put_by image_name image engine.now.images) }
+    ensures plan { IfOk result (λ x. x.2.changes
+        ≡ library_changes (with_entry engine.now.library (opened_entry image.name))) }
+{
+    let library = library_with(alloc, &engine.library, image.name.bytes())?;
+    let plan = library_plan(alloc, &library)?;
+    let images = with_image(alloc, &engine.images, image)?;
+    Ok((library, images, plan))
+}
+
+// Opens the medium of an image that is not refused.
+fn add_image(alloc: Global, engine: &Engine, image: Image) -> Decided
+    requires sound { IsSoundEngine engine.now }
+    requires name { IsTrue (is_medium_name image.name) }
+    requires free { has_name medium_entry_name image.name engine.now.library.media ≡ false }
+    requires allowed { first_refusal (image_checks engine.now.library engine.now.images image.header) ≡ None }
+    ensures decides { (files : Files) → Holds engine.now.library engine.now.images files
+        → IsRead (files image.name) (Ok image.header) → Decides files engine.now (OpenMedium image.name) result }
+    ensures sound { DecidesSound result }
+    ensures cause { OnFailed result ⊥ }
+{
+    let id = id_of(&image);
+    match add_entry(alloc, engine, image) {
+        Ok((library, images, plan)) => Decided::Turn {
+            library,
+            images,
+            plan,
+            answer: Answer::Id(id),
+        },
+        Err(NoMemory) => Decided::NoMemory,
+    }
+}
+
+// Opens the medium of an image, whose name no medium has, unless it is refused.
+fn decide_image(alloc: Global, engine: &Engine, image: Image) -> Decided
+    requires sound { IsSoundEngine engine.now }
+    requires name { IsTrue (is_medium_name image.name) }
+    requires free { has_name medium_entry_name image.name engine.now.library.media ≡ false }
+    ensures decides { (files : Files) → Holds engine.now.library engine.now.images files
+        → IsRead (files image.name) (Ok image.header) → Decides files engine.now (OpenMedium image.name) result }
+    ensures sound { DecidesSound result }
+    ensures cause { OnFailed result ⊥ }
+{
+    match image_refusal(engine, &image.header) {
+        Some(refusal) => Decided::Stay(Answer::Refused(refusal)),
+        None => add_image(alloc, engine, image),
+    }
+}
+
+// Opens the file of a name that no medium has.
+fn decide_file<D: Disk>(alloc: Global, engine: &Engine, disk: &mut D, name: &[u8]) -> Decided
+    requires sound { IsSoundEngine engine.now }
+    requires name { IsTrue (is_medium_name name.now) }
+    requires fits { D.tells → FitsDisk engine.now (D.state disk.old) }
+    requires free { has_name medium_entry_name name.now engine.now.library.media ≡ false }
+    ensures decides { D.tells → Decides (D.state disk.old).files engine.now (OpenMedium name.now) result }
+    ensures sound { DecidesSound result }
+    ensures reads { OnlyReads D.tells (D.state disk.old) (D.state disk.new) }
+    ensures cause { OnFailed result (Rose (D.state disk.old).faults (D.state disk.new).faults) }
+{
+    match open_image(alloc, disk, name) {
+        Ok(image) => decide_image(alloc, engine, image),
+        Err(OpenFault::Missing) => Decided::Stay(Answer::Refused(Refusal::NoSuchFile)),
+        Err(OpenFault::Bad(bad)) => {
+            Decided::Stay(Answer::Refused(Refusal::NotAnImage(bad.number())))
+        }
+        Err(OpenFault::Failed) => Decided::Failed,
+        Err(OpenFault::NoMemory) => Decided::NoMemory,
+    }
+}
+
+/// Decides `openmedium`.
+pub(crate) fn decide_open<D: Disk>(
+    alloc: Global,
+    engine: &Engine,
+    disk: &mut D,
+    name: &[u8],
+) -> Decided
+    requires sound { IsSoundEngine engine.now }
+    requires name { IsTrue (is_medium_name name.now) }
+    requires fits { D.tells → FitsDisk engine.now (D.state disk.old) }
+    ensures decides { D.tells → Decides (D.state disk.old).files engine.now (OpenMedium name.now) result }
+    ensures sound { DecidesSound result }
+    ensures reads { OnlyReads D.tells (D.state disk.old) (D.state disk.new) }
+    ensures cause { OnFailed result (Rose (D.state disk.old).faults (D.state disk.new).faults) }
+{
+    match engine.library.media.find(name) {
+        Some(_) => Decided::Stay(Answer::Refused(Refusal::NameTaken)),
+        None => decide_file(alloc, engine, disk, name),
+    }
+}

@@ -1,0 +1,108 @@
+//! Steps of an engine.
+
+ghost use Rattle.std.specs.Prelude.{◌≤◌, Ok, OnOk, OnErr};
+ghost use Rattle.vbm_ports.specs.Counts.{Rose};
+ghost use Rattle.vbm_ports.specs.Crash.{Only};
+ghost use Rattle.vbm_ports.specs.Disk.{Passes, OnlyReads};
+ghost use Rattle.vbm_world.specs.World.{off};
+ghost use Rattle.vbm_world.specs.Loose.{Unsettled};
+ghost use Rattle.vbm_world.specs.Texts.{IsSpelled};
+ghost use Rattle.vbm_registry.specs.Stands.{Stands};
+ghost use Rattle.vbm_engine.specs.Serves.{serves, IsSoundEngine, FitsDisk, IsReady, StandsLoosely};
+ghost use Rattle.vbm_engine.specs.Steps.{Hands, HandsSound, IsInStep, OnBroken, Decides, DecidesSound, OnFailed};
+
+use crate::ask::{decide_list, decide_show};
+use crate::close::decide_close;
+use crate::create::decide_create;
+use crate::engine::{Decided, Engine, Stepped};
+use crate::register::decide_open;
+use std::alloc::Global;
+use vbm_ports::{Disk, Failed};
+use vbm_world::Command;
+
+/// Decides a command: reads alone.
+pub(crate) fn decide<D: Disk>(
+    alloc: Global,
+    engine: &Engine,
+    disk: &mut D,
+    command: &Command,
+) -> Decided
+    requires sound { IsSoundEngine engine.now }
+    requires spelled { IsSpelled command.now }
+    requires fits { D.tells → FitsDisk engine.now (D.state disk.old) }
+    ensures decides { D.tells → Decides (D.state disk.old).files engine.now command.now result }
+    ensures sound { DecidesSound result }
+    ensures reads { OnlyReads D.tells (D.state disk.old) (D.state disk.new) }
+    ensures cause { OnFailed result (Rose (D.state disk.old).faults (D.state disk.new).faults) }
+{
+    match command {
+        Command::CreateMedium {
+            name,
+            size,
+            variant,
+        } => decide_create(alloc, engine, disk, name, *size, *variant),
+        Command::OpenMedium { name } => decide_open(alloc, engine, disk, name.bytes()),
+        Command::CloseMedium { name, delete } => {
+            decide_close(alloc, engine, name.bytes(), *delete)
+        }
+        Command::ShowMediumInfo { name } => decide_show(engine, name.bytes()),
+        Command::ListHdds => decide_list(alloc, engine),
+    }
+}
+
+impl Engine {
+    /// Does a command, and answers it. A refused command changes nothing, and neither does one for which there is no memory. After
+    /// `Broken` the store has to be opened again.
+    pub fn step<D: Disk>(self, alloc: Global, disk: &mut D, command: &Command) -> Stepped
+        requires sound { IsSoundEngine self }
+        requires spelled { IsSpelled command.now }
+        requires fits { D.tells → FitsDisk self (D.state disk.old) }
+        ensures step { D.tells → Hands (D.state disk.old) (D.state disk.new) self command.now result }
+        ensures sound { HandsSound result }
+        ensures any_moment { D.tells → (u : Unsettled) → IsReady self (D.state disk.old) u
+            → Passes (D.state disk.old) (D.state disk.new) (IsInStep (serves self (D.state disk.old).files) command.now u) }
+        ensures faults { (D.state disk.old).faults ≤ (D.state disk.new).faults }
+        ensures cause { OnBroken result (Rose (D.state disk.old).faults (D.state disk.new).faults) }
+    {
+        let decided = decide(alloc, &self, disk, command);
+        match decided {
+            Decided::Stay(answer) => Stepped::Next(self, answer),
+            Decided::NoMemory => Stepped::NoMemory(self),
+            Decided::Failed => Stepped::Broken,
+            Decided::Turn {
+                library,
+                images,
+                plan,
+                answer,
+            } => {
+                let mut log = self.log;
+                match log.commit(disk, &plan) {
+                    Ok(()) => Stepped::Next(
+                        Engine {
+                            library,
+                            images,
+                            log,
+                        },
+                        answer,
+                    ),
+                    Err(Failed) => Stepped::Broken,
+                }
+            }
+        }
+    }
+
+    /// Settles everything. It takes no memory.
+    pub fn close<D: Disk>(self, disk: &mut D) -> Result<(), Failed>
+        requires sound { IsSoundEngine self }
+        requires fits { D.tells → FitsDisk self (D.state disk.old) }
+        ensures settled { D.tells → OnOk result (Only (D.state disk.new).files (D.state disk.new).may_leave) }
+        ensures stands { D.tells
+            → OnOk result (Stands (D.state disk.new).files (Ok (off (serves self (D.state disk.old).files)))) }
+        ensures any_moment { D.tells → (u : Unsettled) → IsReady self (D.state disk.old) u
+            → Passes (D.state disk.old) (D.state disk.new) (StandsLoosely (off (serves self (D.state disk.old).files)) u) }
+        ensures reads { OnlyReads D.tells (D.state disk.old) (D.state disk.new) }
+        ensures cause { OnErr result (Rose (D.state disk.old).faults (D.state disk.new).faults) }
+    {
+        disk.sync()
+    }
+}
