@@ -6,7 +6,8 @@ use vbm_memdisk::{MemDisk, MemSink, MemSource};
 use vbm_ports::{
     Bytes, Failed, Names, Sequence, Sink, Source, Text, names_medium, names_store_file, put_all,
 };
-use vbm_top::{PeekResult, Refusal, peek};
+use vbm_top::{PeekResult, peek};
+use vbm_world::Refusal;
 
 #[test]
 fn keeps_sequences(rt: HostRuntime) -> Result<(), Fail> {

@@ -1,2 +1,4 @@
-pub mod Numbers
-pub mod Peeks
+mod Peeks
+mod Forms
+mod Lines
+mod Commands

@@ -1,5 +1,5 @@
 -- A peek at one file.
-use Rattle.std.proofs.Common.{◌≡◌, ℕ, ◌<◌, ◌≤◌, false, leb, List, [], ◌∷◌, length, map, Some, Ok, Err, refl, sym, ap, ◌∙◌, arith}
+use Rattle.std.proofs.Common.{◌≡◌, ℕ, ◌<◌, false, leb, List, [], ◌∷◌, length, Some, Ok, Err, refl, sym, ap, arith}
 use Rattle.std.specs.Prelude.{slice_get}
 use Rattle.std.proofs.lemmas.Bool.{lt-leb}
 use Rattle.vbm_header.specs.declared.Header.{Header}
@@ -9,7 +9,7 @@ use Rattle.vbm_volume.specs.Sectors.{base_sector, sector_count}
 use Rattle.vbm_volume.proofs.Chains.{chain_sector-one}
 use Rattle.vbm_top.specs.declared.peeking.PeekResult.{PeekResult}
 use Rattle.vbm_top.specs.declared.peeking.PeekResult.TheVariants.{Sector, Refused, Failed, NoMemory}
-use Rattle.vbm_top.specs.Peek.{Answer, peeked, Tells}
+use Rattle.vbm_top.specs.Peek.{Peeked, peeked, Tells}
 
 -- a sector of a base image
 pub peeked-base : (f : List ℕ) (h : Header) (lba : ℕ) → image_of f ≡ Ok h → lba < sector_count h → is_differencing h.image_type ≡ false
@@ -25,8 +25,8 @@ one_name (n ∷ []) name one first = cc
 one_name (n ∷ m ∷ names) name one first = absurd (omega arith)
 
 -- the answer that a result tells, or where it tells none, the one that is asked for
-pub told_answer : (told : Type 0) (found : PeekResult) (asked : Answer) → (told → Tells found asked)
-    → (answer : Answer) × (told → answer ≡ asked) × Tells found answer
+pub told_answer : (told : Type 0) (found : PeekResult) (asked : Peeked) → (told → Tells found asked)
+    → (answer : Peeked) × (told → answer ≡ asked) × Tells found answer
 told_answer told (Sector bytes) asked tells = (Ok bytes, λ t. sym (tells t), refl)
 told_answer told (Refused refusal) asked tells = (Err refusal, λ t. sym (tells t), refl)
 told_answer told Failed asked tells = (asked, λ t. refl, tt)

@@ -6,14 +6,16 @@ use Rattle.vbm_header.specs.declared.Header.{Header}
 use Rattle.vbm_header.specs.Header.{condition_number}
 use Rattle.vbm_volume.specs.Image.{image_of}
 use Rattle.vbm_volume.specs.Chain.{Link, headers_of, broken_at, chain_count, chain_sector}
-use Rattle.vbm_top.specs.declared.peeking.Refusal.{Refusal}
-use Rattle.vbm_top.specs.declared.peeking.Refusal.TheVariants.{NoSuchFile, NotAnImage, OutOfRange, BrokenChain}
+use Rattle.vbm_world.specs.declared.command.Refusal.{Refusal}
+use Rattle.vbm_world.specs.declared.command.Refusal.TheVariants.{NoSuchFile, NotAnImage, OutOfRange, BrokenChain}
+use Rattle.vbm_world.specs.declared.command.Answer.{Answer}
+use Rattle.vbm_world.specs.declared.command.Answer.TheVariants.{Sectors, Refused as RefusedWith}
 use Rattle.vbm_top.specs.declared.peeking.PeekResult.{PeekResult}
 use Rattle.vbm_top.specs.declared.peeking.PeekResult.TheVariants.{Sector, Refused, Failed, NoMemory}
 
 -- the bytes of a sector, or a refusal
-abbrev pub Answer : Type 0
-Answer = Result (List ℕ) Refusal
+abbrev pub Peeked : Type 0
+Peeked = Result (List ℕ) Refusal
 
 -- the files, if all of them are there
 abbrev pub all_there : List (Option (List ℕ)) → Option (List (List ℕ))
@@ -31,26 +33,31 @@ links_of (f ∷ fs) = on_link f (image_of f) (links_of fs) where
   on_link f (Ok h) (Ok above) = Ok ((f, h) ∷ above)
 
 -- of a list of images: the sector, if they are a chain; else the place of the first that is not linked
-abbrev pub unless_broken : Option ℕ → List Link → ℕ → Answer
+abbrev pub unless_broken : Option ℕ → List Link → ℕ → Peeked
 unless_broken (Some i) links lba = Err (BrokenChain i)
 unless_broken None links lba = Ok (chain_sector links lba)
 
-abbrev pub sector_of_links : Result (List Link) BadImage → ℕ → Answer
+abbrev pub sector_of_links : Result (List Link) BadImage → ℕ → Peeked
 sector_of_links (Err bad) lba = Err (NotAnImage (condition_number bad))
 sector_of_links (Ok links) lba = if nat_le (chain_count links) lba then Err OutOfRange else unless_broken (broken_at (headers_of links)) links lba
 
-abbrev pub sector_of_files : Option (List (List ℕ)) → ℕ → Answer
+abbrev pub sector_of_files : Option (List (List ℕ)) → ℕ → Peeked
 sector_of_files None lba = Err NoSuchFile
 sector_of_files (Some fs) lba = sector_of_links (links_of fs) lba
 
 -- Sector `lba` of files, base first, or the first refusal that holds: a file is not there, is no image, the sector is past the
 -- capacity of the last, or the files are no chain.
-abbrev pub peeked : List (Option (List ℕ)) → ℕ → Answer
+abbrev pub peeked : List (Option (List ℕ)) → ℕ → Peeked
 peeked files lba = sector_of_files (all_there files) lba
 
 -- a result tells the answer; a device fault and want of memory tell nothing of it
-abbrev pub Tells : PeekResult → Answer → Type 0
+abbrev pub Tells : PeekResult → Peeked → Type 0
 Tells (Sector bytes) answer = answer ≡ Ok bytes
 Tells (Refused refusal) answer = answer ≡ Err refusal
 Tells Failed answer = Unit {0}
 Tells NoMemory answer = Unit {0}
+
+-- the answer of the program: a sector, or a refusal
+abbrev pub answer_of : Peeked → Answer
+answer_of (Ok bytes) = Sectors bytes
+answer_of (Err refusal) = RefusedWith refusal

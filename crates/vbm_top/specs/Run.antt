@@ -1,47 +1,156 @@
--- A run of the program.
-use Rattle.std.specs.Prelude.{◌≡◌, ℕ, ◌<◌, ◌^◌, ◌⊎◌, List, [], ◌∷◌, ◌++◌, Result, Ok, Err, IsTrue, codes, decimal}
-use Rattle.hex.specs.Hex.{encode_lower}
+-- A run of the program: one command in words.
+use Rattle.std.specs.Prelude.{◌≡◌, ℕ, ◌<◌, ◌^◌, ◌⊎◌, List, [], ◌∷◌, ◌++◌, length, All, Ok, Err, IsTrue, if◌then◌else◌, codes, decimal}
 use Rattle.vbm_ports.specs.Names.{is_medium_name}
+use Rattle.vbm_ports.specs.Files.{Files}
+use Rattle.vbm_ports.specs.Disk.{DiskState}
+use Rattle.vbm_ports.specs.Counts.{Rose}
+use Rattle.vbm_ports.specs.Crash.{Only}
 use Rattle.vbm_ports.specs.Stream.{IsProperPrefix}
-use Rattle.vbm_top.specs.declared.peeking.Refusal.{Refusal}
-use Rattle.vbm_top.specs.declared.peeking.Refusal.TheVariants.{NoSuchFile, NotAnImage, OutOfRange, BrokenChain}
-use Rattle.vbm_top.specs.Peek.{Answer}
+use Rattle.vbm_intent.specs.Log.{IsBadLog}
+use Rattle.vbm_world.specs.declared.command.Command.{Command}
+use Rattle.vbm_world.specs.declared.command.Answer.{Answer}
+use Rattle.vbm_world.specs.declared.command.Answer.TheVariants.{Id}
+use Rattle.vbm_world.specs.World.{World, off}
+use Rattle.vbm_world.specs.Step.{step_of}
+use Rattle.vbm_world.specs.Texts.{Words, IsNoCommand, id_text, line_of}
+use Rattle.vbm_world.specs.Loose.{all_settled, is_refused}
+use Rattle.vbm_registry.specs.declared.fault.BadStore.{BadStore}
+use Rattle.vbm_registry.specs.declared.fault.BadStore.TheVariants.{NoLibrary, BadLog, BadLibrary, MissingFile, BadImage, WrongType, WrongId, BrokenLink, SameId}
+use Rattle.vbm_registry.specs.Stands.{Stands}
+use Rattle.vbm_engine.specs.declared.engine.Engine.{Engine}
+use Rattle.vbm_engine.specs.Serves.{serves, StandsLoosely}
+use Rattle.vbm_engine.specs.Steps.{IsInStep}
+use Rattle.vbm_engine.specs.Opens.{AreRedone, StandsAlike, IsMade, IsThere}
+
+-- ---- words
 
 -- The words `peek FILE LBA`: the name of a medium, and a number below 2^64 in decimal, without leading zeros.
-pub record IsPeek (words : List (List ℕ)) (name : List ℕ) (lba : ℕ) : Type 0 where
+pub record IsPeek (words : Words) (name : List ℕ) (lba : ℕ) : Type 0 where
   pub spelled : words ≡ codes "peek" ∷ name ∷ decimal lba ∷ []
   pub medium : IsTrue (is_medium_name name)
   pub fits : lba < 2 ^ 64
 
--- the words are no command
-abbrev pub IsNoForm : List (List ℕ) → Type 0
-IsNoForm words = (name : List ℕ) (lba : ℕ) → IsPeek words name lba → ⊥
+-- sixteen bytes
+pub record IsSeed (seed : List ℕ) : Type 0 where
+  pub long : length seed ≡ 16
+  pub bytes : All (λ b. b < 256) seed
 
--- a refusal has a number of two digits and a name
-abbrev pub refusal_text : Refusal → List ℕ
-refusal_text NoSuchFile = codes "error 08 NoSuchFile"
-refusal_text (NotAnImage k) = codes "error 09 NotAnImage " ++ decimal k
-refusal_text OutOfRange = codes "error 20 OutOfRange"
-refusal_text (BrokenChain i) = codes "error 28 BrokenChain " ++ decimal i
+-- The words `init`, which take the fresh seed, or `init SEED` with an identifier in the hyphenated lower-case form.
+pub data IsInit (words : Words) (fresh seed : List ℕ) : Type 0 where
+  drawn : words ≡ codes "init" ∷ [] → seed ≡ fresh → IsInit words fresh seed
+  given : words ≡ codes "init" ∷ id_text seed ∷ [] → IsSeed seed → IsInit words fresh seed
 
--- the line of an answer, a sector in hexadecimal digits
-abbrev pub line_of : Answer → List ℕ
-line_of (Ok bytes) = codes "ok " ++ encode_lower bytes ++ codes "\n"
-line_of (Err refusal) = refusal_text refusal ++ codes "\n"
+-- the words are no command of the program
+pub record IsNoForm (words : Words) : Type 0 where
+  pub no_peek : (name : List ℕ) (lba : ℕ) → IsPeek words name lba → ⊥
+  pub no_init : (fresh seed : List ℕ) → IsInit words fresh seed → ⊥
+  pub no_command : IsNoCommand words
+
+-- ---- lines and statuses
+
+-- a refused store has a number, a name, and what tells more
+abbrev pub store_text : BadStore → List ℕ
+store_text NoLibrary = codes "store 1 NoLibrary"
+store_text BadLog = codes "store 2 BadLog"
+store_text (BadLibrary offset) = codes "store 3 BadLibrary " ++ decimal offset
+store_text (MissingFile name) = codes "store 4 MissingFile " ++ name
+store_text (BadImage name k) = codes "store 5 BadImage " ++ name ++ (codes " " ++ decimal k)
+store_text (WrongType name) = codes "store 6 WrongType " ++ name
+store_text (WrongId name) = codes "store 7 WrongId " ++ name
+store_text (BrokenLink name) = codes "store 8 BrokenLink " ++ name
+store_text (SameId name) = codes "store 9 SameId " ++ name
+
+abbrev pub store_line : BadStore → List ℕ
+store_line bad = store_text bad ++ codes "\n"
+
+-- the line of `init` where there is a library
+abbrev pub there_line : List ℕ
+there_line = codes "store 0 LibraryThere\n"
 
 -- the status of an answer: 1 is a refusal
 abbrev pub status_of : Answer → ℕ
-status_of (Ok bytes) = 0
-status_of (Err refusal) = 1
+status_of answer = if is_refused answer then 1 else 0
+
+-- a proper prefix of the line was written
+abbrev pub BreaksOff : List ℕ → List ℕ → List ℕ → Type 0
+BreaksOff line was now = (front : List ℕ) × IsProperPrefix front line × (now ≡ was ++ front)
 
 -- The line was written whole, with its status; or the sink failed, with a proper prefix of it.
 abbrev pub Writes : Type 0 → List ℕ → ℕ → ℕ → List ℕ → List ℕ → Type 0
-Writes told line given status old new =
-    ((status ≡ given) × (told → new ≡ old ++ line))
-    ⊎ ((status ≡ 5) × (told → (front : List ℕ) × IsProperPrefix front line × (new ≡ old ++ front)))
+Writes told line wanted status was now =
+    ((status ≡ wanted) × (told → now ≡ was ++ line)) ⊎ ((status ≡ 5) × (told → BreaksOff line was now))
 
--- A run with this answer ends: its line was written, the sink failed in it, or nothing was written, since the disk failed or
--- there was no memory. What was written is told by some sinks only.
-abbrev pub Ends : Type 0 → Answer → ℕ → List ℕ → List ℕ → Type 0
-Ends told answer status old new =
-    Writes told (line_of answer) (status_of answer) status old new ⊎ (((status ≡ 3) ⊎ (status ≡ 6)) × (told → new ≡ old))
+-- ---- how a run ends. What was written is told by some sinks only, and what the files hold by some disks.
+
+-- nothing was written, since the disk failed or there was no memory
+abbrev pub SaysNothing : Type 0 → ℕ → List ℕ → List ℕ → Type 0
+SaysNothing told status was now = ((status ≡ 3) ⊎ (status ≡ 6)) × (told → now ≡ was)
+
+-- The line was written with its status, unless the sink failed or there was no memory.
+abbrev pub Says : Type 0 → List ℕ → ℕ → ℕ → List ℕ → List ℕ → Type 0
+Says told line wanted status was now = Writes told line wanted status was now ⊎ ((status ≡ 6) × (told → now ≡ was))
+
+-- `peek` with this answer
+abbrev pub PeekEnds : Type 0 → Answer → ℕ → List ℕ → List ℕ → Type 0
+PeekEnds told answer status was now = Writes told (line_of answer) (status_of answer) status was now ⊎ SaysNothing told status was now
+
+-- `init` with this seed
+pub data InitEnds (tells told : Type 0) (seed : List ℕ) (old new : DiskState) (status : ℕ) (was now : List ℕ) : Type 0 where
+  made : (tells → IsMade seed old.files new) → Writes told (line_of (Id seed)) 0 status was now → InitEnds tells told seed old new status was now
+  there : (tells → IsThere old.files new.files) → Writes told there_line 7 status was now → InitEnds tells told seed old new status was now
+  refused : (bad : BadStore) → (tells → (bad ≡ BadLog) × IsBadLog old.files × (new.files ≡ old.files)) → Writes told (store_line bad) 7 status was now
+      → InitEnds tells told seed old new status was now
+  silent : SaysNothing told status was now → InitEnds tells told seed old new status was now
+
+-- The store that the files stood for took the command with this answer, and the files stand for the world after it, off and settled.
+pub record IsAnswered (command : Command) (files : Files) (answer : Answer) (new : DiskState) : Type 0 where
+  pub world : World
+  pub stood : Stands files (Ok world)
+  pub number : ℕ
+  pub is_answer : answer ≡ (step_of world command number).0
+  pub stands : Stands new.files (Ok (off (step_of world command number).1))
+  pub settled : Only new.files new.may_leave
+
+-- The same, but that the disk failed in the close: what a crash leaves now is of the world after the command.
+pub record IsUnclosed (command : Command) (files : Files) (answer : Answer) (new : DiskState) : Type 0 where
+  pub world : World
+  pub stood : Stands files (Ok world)
+  pub number : ℕ
+  pub is_answer : answer ≡ (step_of world command number).0
+  pub images : (image : Files) → new.may_leave image → StandsLoosely (off (step_of world command number).1) all_settled image
+
+-- a command of the machine, over files
+pub data CommandEnds (tells told : Type 0) (command : Command) (files : Files) (new : DiskState) (status : ℕ) (was now : List ℕ) : Type 0 where
+  -- the store is refused
+  faulty : (bad : BadStore) → (tells → Stands files (Err bad) × AreRedone files new.files)
+      → Writes told (store_line bad) 7 status was now → CommandEnds tells told command files new status was now
+  -- the command is answered
+  answered : (answer : Answer) → (tells → IsAnswered command files answer new)
+      → Writes told (line_of answer) (status_of answer) status was now → CommandEnds tells told command files new status was now
+  -- the disk failed when the store was closed, after the answer was written, whole or in part, or was lost for want of memory
+  unclosed : (answer : Answer) → (tells → IsUnclosed command files answer new) → status ≡ 3
+      → (told → (now ≡ was ++ line_of answer) ⊎ BreaksOff (line_of answer) was now) → CommandEnds tells told command files new status was now
+  -- there was no memory, before the command was done, for the line of a refused store, or for an answer
+  unanswered : status ≡ 6 → (told → now ≡ was)
+      → (tells → StandsAlike files new.files ⊎ ((bad : BadStore) × Stands files (Err bad) × AreRedone files new.files)
+      ⊎ ((answer : Answer) × IsAnswered command files answer new))
+      → CommandEnds tells told command files new status was now
+  -- the disk failed before an answer
+  broken : status ≡ 3 → (told → now ≡ was) → CommandEnds tells told command files new status was now
+
+-- An image at some moment of a run of a command: one that a crash could have left before, one that stands for what the files
+-- stood for, or one of the step.
+abbrev pub IsInRun : Command → DiskState → Files → Type 0
+IsInRun command old image =
+    old.may_leave image ⊎ (StandsAlike old.files image ⊎ ((w : World) → Stands old.files (Ok w) → IsInStep w command all_settled image))
+
+-- ---- closing
+
+-- the files stand for the world that the engine served, off, and all is settled
+pub record IsClosed (e : Engine) (old new : DiskState) : Type 0 where
+  pub stands : Stands new.files (Ok (off (serves e old.files)))
+  pub settled : Only new.files new.may_leave
+
+-- The store was closed and the wanted status stays, or the disk failed.
+abbrev pub Closes : Type 0 → Engine → DiskState → DiskState → ℕ → ℕ → Type 0
+Closes tells e old new wanted status = ((status ≡ wanted) × (tells → IsClosed e old new)) ⊎ ((status ≡ 3) × Rose old.faults new.faults)

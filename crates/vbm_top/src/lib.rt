@@ -1,11 +1,13 @@
 //! Words in, lines and a status out.
 #![tactic(auto)]
 
-mod lines;
+mod commanding;
+mod making;
 mod peeking;
 mod running;
+mod saying;
 pub mod status;
 mod words;
 
-pub use peeking::{PeekResult, Refusal, peek};
+pub use peeking::{PeekResult, peek};
 pub use running::run;

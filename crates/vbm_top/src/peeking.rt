@@ -1,28 +1,19 @@
 //! One sector of one image.
 
-ghost use Rattle.std.specs.Prelude.{◌≡◌, ◌≤◌, ◌∷◌, [], ℕ, List, length, map, Some, IsTrue, All};
+ghost use Rattle.std.specs.Prelude.{◌≡◌, ◌≢◌, ◌≤◌, ◌∷◌, [], ℕ, List, length, map, Some, Ok, IsTrue, All};
 ghost use Rattle.vbm_ports.specs.Counts.{Rose};
 ghost use Rattle.vbm_ports.specs.Disk.{OnlyReads};
 ghost use Rattle.vbm_ports.specs.Names.{is_medium_name};
-ghost use Rattle.vbm_top.specs.Peek.{peeked, Tells};
+ghost use Rattle.vbm_top.specs.Peek.{peeked, Tells, Peeked, answer_of};
+ghost use Rattle.vbm_top.specs.Run.{PeekEnds};
 
+use crate::saying::write_answer;
+use crate::status::{DISK_FAULT, NO_MEMORY};
 use std::alloc::Global;
 use vbm_header::{SECTOR_LEN, SECTORS_OF_BLOCK};
-use vbm_ports::{Disk, Names};
+use vbm_ports::{Bytes, Disk, Names, Sink};
 use vbm_volume::{MapFault, read_image, read_sector};
-
-/// Why a command is refused.
-#[derive(Clone, Copy, Debug, PartialEq, Eq)]
-pub enum Refusal {
-    /// There is no such file.
-    NoSuchFile,
-    /// A file is no image: the number of the first condition that fails, from 1.
-    NotAnImage(u32),
-    /// A sector is past the capacity.
-    OutOfRange,
-    /// Files are no chain: the place of the first that is not linked, from 0.
-    BrokenChain(u32),
-}
+use vbm_world::{Answer, Refusal};
 
 /// What `peek` answers.
 #[derive(Clone, Copy, Debug, PartialEq, Eq)]
@@ -87,4 +78,52 @@ fn peek_present<D: Disk>(alloc: Global, disk: &mut D, name: &[u8], len: u64, lba
         Ok(sector) => PeekResult::Sector(sector),
         Err(_) => PeekResult::Failed,
     }
+}
+
+/// Writes the bytes of a sector.
+fn write_sector<K: Sink>(alloc: Global, sink: &mut K, sector: &[u8]) -> u8
+    ensures ends { PeekEnds K.tells (answer_of (Ok sector.now)) result (K.written sink.old) (K.written sink.new) }
+    ensures output { result ≡ 5 → Rose (K.faults sink.old) (K.faults sink.new) }
+    ensures others { (result ≢ 2) × (result ≢ 3) }
+{
+    match Bytes::from_slice(alloc, sector) {
+        Ok(bytes) => write_answer(alloc, sink, &Answer::Sectors(bytes)),
+        Err(_) => NO_MEMORY,
+    }
+}
+
+/// Writes what `peek` answers.
+fn write_found<K: Sink>(alloc: Global, sink: &mut K, found: &PeekResult) -> u8
+    ensures ends { (asked : Peeked) → Tells found.now asked
+        → PeekEnds K.tells (answer_of asked) result (K.written sink.old) (K.written sink.new) }
+    ensures disk { result ≡ 3 → found.now ≡ PeekResult.Failed }
+    ensures output { result ≡ 5 → Rose (K.faults sink.old) (K.faults sink.new) }
+    ensures not_two { result ≢ 2 }
+{
+    match found {
+        PeekResult::Sector(sector) => write_sector(alloc, sink, sector),
+        PeekResult::Refused(refusal) => write_answer(alloc, sink, &Answer::Refused(*refusal)),
+        PeekResult::Failed => DISK_FAULT,
+        PeekResult::NoMemory => NO_MEMORY,
+    }
+}
+
+/// Does `peek` of one file.
+pub(crate) fn do_peek<D: Disk, K: Sink>(
+    alloc: Global,
+    disk: &mut D,
+    sink: &mut K,
+    name: &[u8],
+    lba: u64,
+) -> u8
+    requires { IsTrue (is_medium_name name.now) }
+    ensures ends { (found : Peeked) × (D.tells → found ≡ peeked ((D.state disk.old).files name.now ∷ []) lba)
+        × PeekEnds K.tells (answer_of found) result (K.written sink.old) (K.written sink.new) }
+    ensures reads { OnlyReads D.tells (D.state disk.old) (D.state disk.new) }
+    ensures disk_fault { result ≡ 3 → Rose (D.state disk.old).faults (D.state disk.new).faults }
+    ensures output_fault { result ≡ 5 → Rose (K.faults sink.old) (K.faults sink.new) }
+    ensures not_two { result ≢ 2 }
+{
+    let found = peek_file(alloc, disk, name, lba);
+    write_found(alloc, sink, &found)
 }

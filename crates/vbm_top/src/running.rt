@@ -1,22 +1,29 @@
 //! The top call.
 
-ghost use Rattle.std.specs.Prelude.{◌≡◌, ◌≢◌, ◌<◌, ◌^◌, ◌↔◌, ◌⊎◌, ◌∷◌, [], ℕ, List};
+ghost use Rattle.std.specs.Prelude.{◌≡◌, ◌<◌, ◌≤◌, ◌^◌, ◌↔◌, ◌⊎◌, ◌∷◌, [], ℕ, List};
 ghost use Rattle.vbm_ports.specs.Counts.{Rose};
-ghost use Rattle.vbm_ports.specs.Disk.{OnlyReads};
-ghost use Rattle.vbm_top.specs.Peek.{Answer, peeked, Tells};
-ghost use Rattle.vbm_top.specs.Run.{IsPeek, IsNoForm, Writes, Ends};
+ghost use Rattle.vbm_ports.specs.Disk.{Passes, OnlyReads};
+ghost use Rattle.vbm_intent.specs.Log.{IsLikeRedone};
+ghost use Rattle.vbm_world.specs.Texts.{IsCommand};
+ghost use Rattle.vbm_world.specs.declared.command.Command.{Command};
+ghost use Rattle.vbm_engine.specs.Opens.{StandsNew};
+ghost use Rattle.vbm_top.specs.Peek.{Peeked, peeked, answer_of};
+ghost use Rattle.vbm_top.specs.Run.{IsPeek, IsInit, IsNoForm, PeekEnds, InitEnds, CommandEnds, IsInRun};
 
-use crate::lines::{refusal_line, sector_line};
-use crate::peeking::{PeekResult, peek_file};
-use crate::status::{DISK_FAULT, DONE, NO_FORM, NO_MEMORY, OUTPUT_FAULT, REFUSED};
-use crate::words::peek_words;
+use crate::commanding::do_command;
+use crate::making::do_init;
+use crate::peeking::do_peek;
+use crate::status::{NO_FORM, NO_MEMORY};
+use crate::words::{init_words, peek_words};
 use std::alloc::Global;
 use uuid::Uuid;
-use vbm_ports::{Disk, Sink, Source, Text, put_all};
+use vbm_ports::{Disk, Sink, Source, Text};
+use vbm_script::{ParseFault, parse_words};
 
 /// Does the command of the words: the answer's line goes to the sink, and the status is one of `status`.
 ///
-/// `fresh` and `most`, the seed of a new library and the most bytes that are taken from the source, are for commands to come.
+/// `fresh` is the seed of a new library where the words give none; `most`, the most bytes that are taken from the source, is for
+/// commands to come.
 pub fn run<D: Disk, S: Source, K: Sink>(
     alloc: Global,
     words: &[Text],
@@ -31,52 +38,39 @@ pub fn run<D: Disk, S: Source, K: Sink>(
     ensures words { (result ≡ 2) ↔ IsNoForm words.now }
     ensures untouched { result ≡ 2 → (disk.new ≡ disk.old) × (sink.new ≡ sink.old) }
 
-    // Else the line of an answer is written, and where the disk tells its files, the answer is what they hold.
-    ensures line { (name : List ℕ) (lba : ℕ) → IsPeek words.now name lba → (answer : Answer) ×
-        (D.tells → answer ≡ peeked ((D.state disk.old).files name ∷ []) lba) × Ends K.tells answer result (K.written sink.old) (K.written sink.new) }
+    // `peek` reads alone, and writes what the files hold.
+    ensures peek { (name : List ℕ) (lba : ℕ) → IsPeek words.now name lba → (found : Peeked) ×
+        (D.tells → found ≡ peeked ((D.state disk.old).files name ∷ []) lba) × PeekEnds K.tells (answer_of found) result (K.written sink.old) (K.written sink.new) }
+    ensures peek_reads { (name : List ℕ) (lba : ℕ) → IsPeek words.now name lba
+        → OnlyReads D.tells (D.state disk.old) (D.state disk.new) }
+
+    // `init` makes a library, and a crash leaves the files as they were, redone, or the new library.
+    ensures init { (seed : List ℕ) → IsInit words.now fresh seed
+        → InitEnds D.tells K.tells seed (D.state disk.old) (D.state disk.new) result (K.written sink.old) (K.written sink.new) }
+    ensures init_any_moment { D.tells → (seed : List ℕ) → IsInit words.now fresh seed → Passes (D.state disk.old) (D.state disk.new)
+        (λ image. (D.state disk.old).may_leave image ⊎ IsLikeRedone (D.state disk.old).files image
+        ⊎ StandsNew seed (D.state disk.old).files image) }
+
+    // A command of the machine is a step of the world that the files stand for, and a crash leaves the one before or the one after.
+    ensures command { (c : Command) → IsCommand words.now c
+        → CommandEnds D.tells K.tells c (D.state disk.old).files (D.state disk.new) result (K.written sink.old) (K.written sink.new) }
+    ensures any_moment { D.tells → (c : Command) → IsCommand words.now c
+        → Passes (D.state disk.old) (D.state disk.new) (IsInRun c (D.state disk.old)) }
 
     ensures disk_fault { result ≡ 3 → Rose (D.state disk.old).faults (D.state disk.new).faults }
     ensures output_fault { result ≡ 5 → Rose (K.faults sink.old) (K.faults sink.new) }
-
-    ensures reads { OnlyReads D.tells (D.state disk.old) (D.state disk.new) }
+    ensures faults { (D.state disk.old).faults ≤ (D.state disk.new).faults }
     ensures source { source.new ≡ source.old }
 {
-    let Some((name, lba)) = peek_words(words) else {
-        return NO_FORM;
-    };
-    let found = peek_file(alloc, disk, name, lba);
-    write_answer(alloc, sink, &found)
-}
-
-// Writes the line of an answer, and gives the status.
-fn write_answer<K: Sink>(alloc: Global, sink: &mut K, found: &PeekResult) -> u8
-    ensures line { (answer : Answer) → Tells found.now answer
-        → Ends K.tells answer result (K.written sink.old) (K.written sink.new) }
-    ensures not_two { result ≢ 2 }
-    ensures disk { result ≡ 3 → found.now ≡ PeekResult.Failed }
-    ensures sink { result ≡ 5 → Rose (K.faults sink.old) (K.faults sink.new) }
-{
-    match found {
-        PeekResult::Sector(sector) => match sector_line(alloc, sector) {
-            Ok(line) => write_line(sink, line.as_bytes(), DONE),
-            Err(_) => NO_MEMORY,
-        },
-        PeekResult::Refused(refusal) => match refusal_line(alloc, *refusal) {
-            Ok(line) => write_line(sink, line.as_bytes(), REFUSED),
-            Err(_) => NO_MEMORY,
-        },
-        PeekResult::Failed => DISK_FAULT,
-        PeekResult::NoMemory => NO_MEMORY,
+    if let Some((name, lba)) = peek_words(words) {
+        return do_peek(alloc, disk, sink, name, lba);
     }
-}
-
-// Writes a line, and gives the status: this one, unless the sink failed.
-fn write_line<K: Sink>(sink: &mut K, line: &[u8], status: u8) -> u8
-    ensures writes { Writes K.tells line.now status result (K.written sink.old) (K.written sink.new) }
-    ensures either { (result ≡ status) ⊎ ((result ≡ 5) × Rose (K.faults sink.old) (K.faults sink.new)) }
-{
-    match put_all(sink, line) {
-        Ok(()) => status,
-        Err(_) => OUTPUT_FAULT,
+    if let Some(seed) = init_words(words, fresh) {
+        return do_init(alloc, disk, sink, seed);
+    }
+    match parse_words(alloc, words) {
+        Ok(command) => do_command(alloc, disk, sink, &command),
+        Err(ParseFault::BadLine) => NO_FORM,
+        Err(ParseFault::NoMemory) => NO_MEMORY,
     }
 }

@@ -21,6 +21,9 @@ pub const OUTPUT_FAULT: u8 = 5;
 /// There was no memory.
 pub const NO_MEMORY: u8 = 6;
 
+/// The store is refused.
+pub const STORE_REFUSED: u8 = 7;
+
 /// The input is longer than a run takes.
 pub const INPUT_TOO_LONG: u8 = 8;
 

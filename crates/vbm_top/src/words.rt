@@ -1,29 +1,12 @@
 //! The words of the program.
 
-ghost use Rattle.std.specs.Prelude.{◌≡◌, ◌<◌, ◌^◌, ℕ, List, MatchOption, decimal, IsTrue, ◌↔◌};
-ghost use Rattle.vbm_top.specs.Run.{IsPeek, IsNoForm};
+ghost use Rattle.std.specs.Prelude.{◌≡◌, ℕ, List, MatchOption, IsTrue, ◌↔◌};
+ghost use Rattle.vbm_world.specs.Texts.{id_text};
+ghost use Rattle.vbm_top.specs.Run.{IsPeek, IsSeed, IsInit};
 
+use uuid::Uuid;
+use vbm_lines::decimal;
 use vbm_ports::{Text, names_medium};
-
-/// The number below 2^64 that a word spells in decimal, without leading zeros.
-fn decimal(word: &[u8]) -> Option<u64>
-    ensures { MatchOption result ((n : ℕ) → n < 2 ^ 64 → word.now ≡ decimal n
-        → ⊥) (λ n. word.now ≡ decimal n) }
-{
-    if word.is_empty() {
-        return None;
-    }
-    if word[0] < b'0' {
-        return None;
-    }
-    if word[0] == b'0' && word.len() > 1 {
-        return None;
-    }
-    match str::from_utf8(word) {
-        Ok(text) => text.parse().ok(),
-        Err(_) => None,
-    }
-}
 
 fn is_text(word: &[u8], text: &[u8]) -> bool
     ensures { IsTrue result ↔ (word.now ≡ text.now) }
@@ -33,7 +16,8 @@ fn is_text(word: &[u8], text: &[u8]) -> bool
 
 /// The file and the sector of the words `peek FILE LBA`.
 pub(crate) fn peek_words(words: &[Text]) -> Option<(&[u8], u64)>
-    ensures { MatchOption result (IsNoForm words.now) (λ form. IsPeek words.now form.0.now form.1) }
+    ensures { MatchOption result ((name : List ℕ) (lba : ℕ) → IsPeek words.now name lba
+        → ⊥) (λ form. IsPeek words.now form.0.now form.1) }
 {
     match words {
         [verb, file, lba] => {
@@ -47,6 +31,43 @@ pub(crate) fn peek_words(words: &[Text]) -> Option<(&[u8], u64)>
             let lba = decimal(lba.bytes())?;
             Some((name, lba))
         }
+        _ => None,
+    }
+}
+
+/// Whether a word is the hyphenated lower-case form of an identifier's bytes.
+fn spells(word: &[u8], id: &[u8; 16]) -> bool
+    ensures exact { IsTrue result ↔ (id_text id.now ≡ word.now) }
+    ensures seed { IsSeed id.now }
+{
+    let mut buffer = Uuid::encode_buffer();
+    let text = Uuid::from_bytes(*id).hyphenated().encode_lower(&mut buffer);
+    text.as_bytes() == word
+}
+
+/// The identifier that a word spells in the hyphenated lower-case form.
+fn identifier(word: &[u8]) -> Option<Uuid>
+    ensures { MatchOption result ((seed : List ℕ) → IsSeed seed → word.now ≡ id_text seed
+        → ⊥) (λ seed. IsSeed seed × (word.now ≡ id_text seed)) }
+{
+    let Ok(id) = Uuid::try_parse_ascii(word) else {
+        return None;
+    };
+    if spells(word, id.as_bytes()) {
+        Some(id)
+    } else {
+        None
+    }
+}
+
+/// The seed of the words `init`, which take the fresh one, or `init SEED`.
+pub(crate) fn init_words(words: &[Text], fresh: Uuid) -> Option<Uuid>
+    ensures { MatchOption result ((drawn seed : List ℕ) → IsInit words.now drawn seed
+        → ⊥) (λ seed. IsInit words.now fresh seed) }
+{
+    match words {
+        [verb] if is_text(verb.bytes(), b"init") => Some(fresh),
+        [verb, seed] if is_text(verb.bytes(), b"init") => identifier(seed.bytes()),
         _ => None,
     }
 }

@@ -1,4 +1,4 @@
-use Rattle.std.proofs.Common.{List, ℕ, map, Some, ap, sym, subst, ◌∙◌}
+use Rattle.std.proofs.Common.{map, Some, ap, sym, subst, ◌∙◌}
 use Rattle.vbm_top.specs.Peek.{peeked, Tells}
 use Rattle.vbm_top.proofs.Peeks.{one_name}
 use Rattle.vbm_top.proofs.peeking.peek.Goals as goal

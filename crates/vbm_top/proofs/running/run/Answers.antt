@@ -1,15 +1,44 @@
-use Rattle.std.proofs.Common.{List, ℕ, [], ◌∷◌, ap, sym, ◌∙◌}
+use Rattle.std.proofs.Common.{[], ◌∷◌, ap, sym, subst, ◌∙◌, ◌⊎◌}
+use Rattle.vbm_ports.specs.Disk.{Passes}
+use Rattle.vbm_intent.specs.Log.{IsLikeRedone}
+use Rattle.vbm_engine.specs.Opens.{StandsNew}
 use Rattle.vbm_top.specs.Peek.{peeked}
-use Rattle.vbm_top.proofs.Numbers.{one_command}
-use Rattle.vbm_top.proofs.Peeks.{told_answer}
+use Rattle.vbm_top.specs.Run.{InitEnds, CommandEnds, IsInRun}
+use Rattle.vbm_top.proofs.Forms.{one_peek, one_init, one_command}
 use Rattle.vbm_top.proofs.running.run.Goals as goal
 
-pub returns-clause-line : goal.returns-clause-line
-returns-clause-line g c = λ name lba spelled.
+pub returns-in-Some-clause-peek : goal.returns-in-Some-clause-peek
+returns-in-Some-clause-peek g c = λ name lba spelled.
     let files = (g.D.Disk.state c.args.disk.now).files in
-    let same = one_command c.args.words.now name c.in-Some.name.now lba c.in-Some.lba spelled c.in-Some.ensures in
-    let told = told_answer g.D.Disk.tells c.peek_file-found.result (peeked (files c.in-Some.name.now ∷ []) c.in-Some.lba) c.peek_file-found.ensures.exact in (
-      told.0,
-      λ tells. told.1 tells ∙ ap (λ n. peeked (files n ∷ []) c.in-Some.lba) (sym same.0) ∙ ap (λ i. peeked (files name ∷ []) i) (sym same.1),
-      c.write_answer.ensures.line told.0 told.2,
+    let same = one_peek c.args.words.now name c.in-Some.name.now lba c.in-Some.lba spelled c.in-Some.ensures in
+    let ends = c.do_peek.ensures.ends in (
+      ends.0,
+      λ tells. ends.1 tells ∙ ap (λ n. peeked (files n ∷ []) c.in-Some.lba) (sym same.0) ∙ ap (λ i. peeked (files name ∷ []) i) (sym same.1),
+      ends.2,
     )
+
+pub returns-in-Some-init_words-clause-init : goal.returns-in-Some-init_words-clause-init
+returns-in-Some-init_words-clause-init g c = λ seed is.
+    let old = g.D.Disk.state c.args.disk.now in
+    let was = g.K.Sink.written c.args.sink.now in
+    subst (λ s. InitEnds g.D.Disk.tells g.K.Sink.tells s old (g.D.Disk.state c.do_init.new.disk) c.do_init.result was (g.K.Sink.written c.do_init.new.sink))
+    (one_init c.args.words.now c.args.fresh c.in-Some-init_words.seed seed c.in-Some-init_words.ensures is) c.do_init.ensures.ends
+
+pub returns-in-Some-init_words-clause-init_any_moment : goal.returns-in-Some-init_words-clause-init_any_moment
+returns-in-Some-init_words-clause-init_any_moment g c = λ told seed is.
+    let old = g.D.Disk.state c.args.disk.now in
+    subst (λ s. Passes old (g.D.Disk.state c.do_init.new.disk) (λ image. old.may_leave image ⊎ IsLikeRedone old.files image ⊎ StandsNew s old.files image))
+    (one_init c.args.words.now c.args.fresh c.in-Some-init_words.seed seed c.in-Some-init_words.ensures is) (c.do_init.ensures.any_moment told)
+
+pub returns-in-Ok-clause-command : goal.returns-in-Ok-clause-command
+returns-in-Ok-clause-command g c = λ command is.
+    let files = (g.D.Disk.state c.args.disk.now).files in
+    let was = g.K.Sink.written c.args.sink.now in
+    let now = g.K.Sink.written c.do_command.new.sink in
+    subst (λ d. CommandEnds g.D.Disk.tells g.K.Sink.tells d files (g.D.Disk.state c.do_command.new.disk) c.do_command.result was now)
+    (one_command c.args.words.now c.in-Ok.command command c.in-Ok.ensures is) c.do_command.ensures.ends
+
+pub returns-in-Ok-clause-any_moment : goal.returns-in-Ok-clause-any_moment
+returns-in-Ok-clause-any_moment g c = λ told command is.
+    subst (λ d. Passes (g.D.Disk.state c.args.disk.now) (g.D.Disk.state c.do_command.new.disk) (IsInRun d (g.D.Disk.state c.args.disk.now)))
+    (one_command c.args.words.now c.in-Ok.command command c.in-Ok.ensures is) (c.do_command.ensures.any_moment told)

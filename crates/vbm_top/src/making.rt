@@ -1,0 +1,36 @@
+//! Making a library.
+
+ghost use Rattle.std.specs.Prelude.{◌≡◌, ◌≢◌, ◌⊎◌, ◌≤◌};
+ghost use Rattle.vbm_ports.specs.Counts.{Rose};
+ghost use Rattle.vbm_ports.specs.Disk.{Passes};
+ghost use Rattle.vbm_intent.specs.Log.{IsLikeRedone};
+ghost use Rattle.vbm_engine.specs.Opens.{StandsNew};
+ghost use Rattle.vbm_top.specs.Run.{InitEnds};
+
+use crate::saying::{write_answer, write_line, write_store};
+use crate::status::{DISK_FAULT, NO_MEMORY, STORE_REFUSED};
+use std::alloc::Global;
+use uuid::Uuid;
+use vbm_engine::{Made, make_library};
+use vbm_ports::{Disk, Sink};
+use vbm_world::Answer;
+
+/// Does `init` with a seed.
+pub(crate) fn do_init<D: Disk, K: Sink>(alloc: Global, disk: &mut D, sink: &mut K, seed: Uuid) -> u8
+    ensures ends { InitEnds D.tells K.tells seed (D.state disk.old) (D.state disk.new) result (K.written sink.old) (K.written sink.new) }
+    ensures any_moment { D.tells → Passes (D.state disk.old) (D.state disk.new)
+        (λ image. (D.state disk.old).may_leave image ⊎ IsLikeRedone (D.state disk.old).files image
+        ⊎ StandsNew seed (D.state disk.old).files image) }
+    ensures faults { (D.state disk.old).faults ≤ (D.state disk.new).faults }
+    ensures disk_fault { result ≡ 3 → Rose (D.state disk.old).faults (D.state disk.new).faults }
+    ensures output_fault { result ≡ 5 → Rose (K.faults sink.old) (K.faults sink.new) }
+    ensures not_two { result ≢ 2 }
+{
+    match make_library(alloc, disk, seed) {
+        Made::Done => write_answer(alloc, sink, &Answer::Id(seed)),
+        Made::Refused(bad) => write_store(alloc, sink, &bad),
+        Made::There => write_line(sink, b"store 0 LibraryThere\n", STORE_REFUSED),
+        Made::Failed => DISK_FAULT,
+        Made::NoMemory => NO_MEMORY,
+    }
+}
