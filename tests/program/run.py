@@ -143,9 +143,113 @@ def outputs(cases):
     os.close(write)
 
 
+SEED = "00010203-0405-0607-0809-0a0b0c0d0e0f"
+A_ID = b"00010203-0405-8600-8000-000000000000"
+A_MODIFY = b"00010203-0405-8601-8000-000000000000"
+HEAD = b"VBMLIB01" + bytes(range(16))
+
+
+class Store:
+    """Runs of the program, one after the other, in one folder."""
+
+    def __init__(self, cases, name, files=()):
+        self.cases, self.name = cases, name
+        self.folder = tempfile.TemporaryDirectory()
+        for file, content in files:
+            with open(self.path(file), "wb") as f:
+                f.write(content)
+
+    def path(self, file):
+        return os.path.join(self.folder.name, file)
+
+    def does(self, line, status, out):
+        done = subprocess.run([self.cases.program, *line.split()], cwd=self.folder.name, stdin=subprocess.DEVNULL, stdout=subprocess.PIPE, stderr=subprocess.PIPE, timeout=60)
+        self.holds(line, (done.returncode, done.stdout, done.stderr) == (status, out, b""), (done.returncode, done.stdout, done.stderr))
+
+    def holds(self, what, good, got=None):
+        if good:
+            self.cases.passed += 1
+            return
+        self.cases.failed += 1
+        print("%s: %s: %r" % (self.name, what, got))
+
+
+def library(next_number=0, media=(), tail=bytes(6)):
+    entries = b"".join(bytes([len(m)]) + m + b"\0" for m in media)
+    return HEAD + struct.pack("<2QH", next_number, 0, len(media)) + entries + tail
+
+
+def media(cases):
+    s = Store(cases, "media")
+    s.does("list hdds", 7, b"store 1 NoLibrary\n")
+    s.does("init " + SEED, 0, b"ok " + SEED.encode() + b"\n")
+    s.holds("the library's bytes", open(s.path("library.vbm"), "rb").read() == library())
+    s.does("init", 7, b"store 0 LibraryThere\n")
+    s.does("createmedium a.vdi --size 1", 0, b"ok " + A_ID + b"\n")
+    made = open(s.path("a.vdi"), "rb").read()
+    s.holds("the image's bytes", len(made) == 2 * MIB and made[392:408] == bytes.fromhex("03020100050400868000000000000000")
+            and made[MIB:MIB + 8] == b"\xff" * 4 + bytes(4))
+    s.does("showmediuminfo a.vdi", 0, b"ok " + A_ID + b" " + A_MODIFY + b" normal Standard 1048576 free\n")
+    s.does("createmedium a.vdi --size 1", 1, b"error 06 NameTaken\n")
+    s.does("createmedium b.vdi --size 2097152", 0, b"ok 00010203-0405-8600-8000-000000000001\n")
+    s.does("createmedium c.vdi --size 2097153", 1, b"error 24 BadSize\n")
+    s.does("list hdds", 0, b"ok 2 a.vdi b.vdi\n")
+    s.does("closemedium a.vdi", 0, b"ok\n")
+    s.does("createmedium a.vdi --size 1", 1, b"error 07 FileExists\n")
+    s.does("showmediuminfo a.vdi", 1, b"error 02 NoSuchMedium\n")
+    s.does("openmedium a.vdi", 0, b"ok " + A_ID + b"\n")
+    s.does("peek a.vdi 2047", 0, sector(0))
+    s.does("closemedium b.vdi --delete", 0, b"ok\n")
+    s.holds("the file is gone", not os.path.exists(s.path("b.vdi")))
+    s.does("list hdds", 0, b"ok 1 a.vdi\n")
+    s.holds("a refused command writes nothing", open(s.path("a.vdi"), "rb").read() == made)
+
+
+def foreign_files(cases):
+    files = [("library.vbm", library(1)), ("p.vdi", image() + data()), ("short.vdi", b"x"), ("link.vdi", image(image_type=4) + data()),
+             ("ours.vdi", (image() + data()).replace(bytes.fromhex("11111111111111418111111111111111"), bytes.fromhex("03020100050400868000000000000009")))]
+    s = Store(cases, "foreign files", files)
+    s.does("openmedium x.vdi", 1, b"error 08 NoSuchFile\n")
+    s.does("openmedium short.vdi", 1, b"error 09 NotAnImage 1\n")
+    s.does("openmedium ours.vdi", 1, b"error 11 ForeignId\n")
+    s.does("openmedium link.vdi", 1, b"error 28 BrokenChain 0\n")
+    s.does("openmedium p.vdi", 0, b"ok 11111111-1111-4111-8111-111111111111\n")
+    s.does("showmediuminfo p.vdi", 0, b"ok 11111111-1111-4111-8111-111111111111 00000000-0000-0000-0000-000000000000 normal Standard 3145728 free\n")
+    s.does("openmedium link.vdi", 1, b"error 10 DuplicateId\n")
+    s.does("closemedium p.vdi --delete", 0, b"ok\n")
+    s = Store(cases, "spent", [("library.vbm", library(1 << 62))])
+    s.does("createmedium a.vdi --size 1", 1, b"error 27 IdsSpent\n")
+    small = image(entries=[FREE], capacity=512, allocated=0)
+    many = [b"m%04d.vdi" % i for i in range(1024)]
+    ids = [b"\x22" + struct.pack("<I", i) + bytes(11) for i in range(1024)]
+    s = Store(cases, "full", [("library.vbm", library(0, many))] + [(m.decode(), small[:392] + i + small[408:516]) for m, i in zip(many, ids)])
+    s.does("createmedium z.vdi --size 1", 1, b"error 26 Full media\n")
+
+
+def refused_stores(cases):
+    good = image() + data()
+    for line, files in [
+        (b"store 3 BadLibrary 48", [("library.vbm", library() + b"x")]),
+        (b"store 3 BadLibrary 48", [("library.vbm", HEAD + struct.pack("<2QH", 0, 0, 1) + b"\5a.vdi\7")]),
+        (b"store 3 BadLibrary 49", [("library.vbm", library(0, [b"b.vdi", b"a.vdi"]))]),
+        (b"store 3 BadLibrary 0", [("library.vbm", b"")]),
+        (b"store 4 MissingFile a.vdi", [("library.vbm", library(0, [b"a.vdi"]))]),
+        (b"store 5 BadImage a.vdi 1", [("library.vbm", library(0, [b"a.vdi"])), ("a.vdi", b"")]),
+        (b"store 6 WrongType a.vdi", [("library.vbm", library(0, [b"a.vdi"])), ("a.vdi", image(image_type=4) + data())]),
+        (b"store 9 SameId b.vdi", [("library.vbm", library(0, [b"a.vdi", b"b.vdi"])), ("a.vdi", good), ("b.vdi", good)]),
+        (b"store 2 BadLog", [("library.vbm", library()), ("intent.vbm", b"\xa5" + bytes(7) + struct.pack("<2I", 33554433, 1))]),
+        (b"store 2 BadLog", [("library.vbm", library()), ("intent.vbm", b"\xa5" + bytes(7) + struct.pack("<2I", 20, 1) + b"\1\5a.vdi" + struct.pack("<QI", 1, 1) + b"\1")]),
+    ]:
+        cases.run("refused store %s" % line.decode(), ["list", "hdds"], 7, line + b"\n", files=files + ([] if line.startswith(b"store 2") else [("intent.vbm", bytes(16))]))
+    s = Store(cases, "a log that waits", [("library.vbm", library()), ("a.vdi", bytes(100)),
+              ("intent.vbm", b"\xa5" + bytes(7) + struct.pack("<2I", 15, 1) + b"\3\5a.vdi" + struct.pack("<Q", 10))])
+    s.does("list hdds", 0, b"ok 0\n")
+    s.holds("it is redone", os.path.getsize(s.path("a.vdi")) == 10 and open(s.path("intent.vbm"), "rb").read(1) != b"\xa5")
+
+
 def main():
     cases = Cases(os.path.abspath(sys.argv[1]))
-    for part in (sectors, refusals, words, folders, outputs):
+    for part in (sectors, refusals, words, folders, outputs, media, foreign_files, refused_stores):
         part(cases)
     print("program: %d passed, %d failed" % (cases.passed, cases.failed))
     return 1 if cases.failed else 0
