@@ -77,21 +77,18 @@ impl Step {
     }
 }
 
-// Lists the media of an image, and again where that is stopped at each fourth call.
+// Lists the media of an image, and again where that is stopped at each of its calls.
 fn check_image(
     rt: &(impl Abort + AllocGlobal),
     step: &Step,
-    first: u64,
     image: &MemDisk,
     is_done: bool,
 ) -> Result<&'static str, Fail> {
     let mut whole = copy(image)?;
     let (status, list) = step.list(rt, &mut whole, is_done)?;
     for k in 0..whole.calls() {
-        if k % 4 == first % 4 {
-            let mut left = stop_list(rt, image, k, list)?;
-            expect(rt, &mut left, LIST, status, list)?;
-        }
+        let mut left = stop_list(rt, image, k, list)?;
+        expect(rt, &mut left, LIST, status, list)?;
     }
     Ok(list)
 }
@@ -111,23 +108,58 @@ fn stop_list(
     Ok(stopped.images_of_last_sync(Pick::Byte(7))?)
 }
 
-#[test]
-fn stops_at_each_call(rt: HostRuntime) -> Result<(), Fail> {
-    for step in STEPS {
-        let start = disk_after(&rt, step.past)?;
-        let calls = step.calls(&rt, &start)?;
-        for k in 0..calls {
-            let mut disk = copy(&start)?;
-            disk.stop_at(k);
-            let is_done = step.fail(&rt, &mut disk)?;
-            for pick in [Pick::Old, Pick::New] {
-                step.list(&rt, &mut disk.images_of_last_sync(pick)?, is_done)?;
-            }
-            let image = disk.images_of_last_sync(Pick::Byte(7))?;
-            let list = check_image(&rt, step, k, &image, is_done)?;
-            assert!(rt; k > 0 || list == step.before, "{}", step.line);
-            assert!(rt; k < calls - 1 || list == step.after, "{}", step.line);
+// Stops a run at a call, and reopens what a crash leaves then.
+fn check_stop(
+    rt: &(impl Abort + AllocGlobal),
+    step: &Step,
+    start: &MemDisk,
+    k: u64,
+    calls: u64,
+) -> Result<(), Fail> {
+    let mut disk = copy(start)?;
+    disk.stop_at(k);
+    let is_done = step.fail(rt, &mut disk)?;
+    for pick in [Pick::Old, Pick::New] {
+        step.list(rt, &mut disk.images_of_last_sync(pick)?, is_done)?;
+    }
+    let image = disk.images_of_last_sync(Pick::Byte(7))?;
+    let list = check_image(rt, step, &image, is_done)?;
+    assert!(rt; k > 0 || list == step.before, "{}", step.line);
+    assert!(rt;
+        k < calls.saturating_sub(1) || list == step.after,
+        "{}",
+        step.line
+    );
+    Ok(())
+}
+
+// Stops a run at each second of its calls, from a first one on.
+fn check_stops(rt: &(impl Abort + AllocGlobal), step: &Step, first: u64) -> Result<(), Fail> {
+    let start = disk_after(rt, step.past)?;
+    let calls = step.calls(rt, &start)?;
+    for k in 0..calls {
+        if k % 2 == first {
+            check_stop(rt, step, &start, k, calls)?;
         }
+    }
+    Ok(())
+}
+
+#[test]
+fn stops_making_at_even_calls(rt: HostRuntime) -> Result<(), Fail> {
+    check_stops(&rt, &STEPS[0], 0)
+}
+
+#[test]
+fn stops_making_at_odd_calls(rt: HostRuntime) -> Result<(), Fail> {
+    check_stops(&rt, &STEPS[0], 1)
+}
+
+#[test]
+fn stops_deleting_and_init(rt: HostRuntime) -> Result<(), Fail> {
+    for step in &STEPS[1..] {
+        check_stops(&rt, step, 0)?;
+        check_stops(&rt, step, 1)?;
     }
     Ok(())
 }
