@@ -7,6 +7,7 @@ use std::alloc::Global;
 use std::process::Abort;
 use std::test::Fail;
 use uuid::Uuid;
+use vbm_machines::Machines;
 use vbm_ports::Sequence;
 use vbm_registry::{DecodeFault, Library, Media, decode, encode};
 
@@ -32,7 +33,7 @@ fn empty_library(alloc: Global) -> Library
         inner: 0,
         media: Media::new(alloc),
         inners: Sequence::new(alloc),
-        machines: Sequence::new(alloc),
+        machines: Machines::new(alloc),
         making: None,
         merging: Sequence::new(alloc),
     }

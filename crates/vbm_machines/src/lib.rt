@@ -2,6 +2,7 @@
 #![tactic(auto)]
 
 use std::alloc::Global;
+use vbm_named::{ByName, Named};
 use vbm_ports::{Copied, NoMemory, Sequence, Text};
 
 /// Which image a slot uses, or a place of a snapshot.
@@ -45,6 +46,14 @@ pub struct Snapshot {
     pub slots: Slots,
 }
 
+impl Named for Snapshot {
+    ghost name_of = { λ snapshot. snapshot.name };
+
+    fn name(&self) -> &[u8] {
+        self.name.bytes()
+    }
+}
+
 impl Copied for Snapshot {
     fn copied(&self, alloc: Global) -> Result<Snapshot, NoMemory> {
         Ok(Snapshot {
@@ -56,7 +65,7 @@ impl Copied for Snapshot {
 }
 
 /// Snapshots, in the order of their names.
-pub type Snapshots = Sequence<Snapshot>;
+pub type Snapshots = ByName<Snapshot>;
 
 /// A machine.
 #[derive(Drop)]
@@ -67,6 +76,14 @@ pub struct Machine {
     pub snapshots: Snapshots,
     /// The place of the current snapshot in the machine's list.
     pub current: Option<u32>,
+}
+
+impl Named for Machine {
+    ghost name_of = { λ machine. machine.name };
+
+    fn name(&self) -> &[u8] {
+        self.name.bytes()
+    }
 }
 
 impl Copied for Machine {
@@ -82,4 +99,4 @@ impl Copied for Machine {
 }
 
 /// Machines, in the order of their names.
-pub type Machines = Sequence<Machine>;
+pub type Machines = ByName<Machine>;

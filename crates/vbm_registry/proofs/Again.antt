@@ -1,5 +1,5 @@
 -- A library's file is read as that library, and a file that is read is that library's.
-use Rattle.std.proofs.Common.{◌≡◌, ℕ, suc, ◌+◌, ◌*◌, ◌^◌, ◌≤◌, Bool, true, false, not, cond, ltb, eqb, List, [], ◌∷◌, ◌++◌, length, take, drop, IsTrue, None, Result, Ok, Err, refl, sym, ap, subst, ◌∙◌, append_assoc, arith, nat_eq}
+use Rattle.std.proofs.Common.{◌≡◌, ℕ, suc, ◌+◌, ◌*◌, ◌^◌, ◌≤◌, Bool, true, false, not, cond, ltb, eqb, List, [], ◌∷◌, ◌++◌, length, take, drop, IsTrue, IfOk, None, Result, Ok, Err, refl, sym, ap, subst, ◌∙◌, append_assoc, arith, nat_eq}
 use Rattle.std.specs.Int.{w16, w64, to_le_bytes}
 use Rattle.std.specs.List.{AllByRecursion, starts_with}
 use Rattle.std.proofs.lemmas.Bool.{le-ltb, eqb-true}
@@ -7,8 +7,9 @@ use Rattle.std.proofs.lemmas.List.{length-append, take-append-drop, nil_from_len
 use Rattle.std.proofs.lemmas.Slice.Eq.{bytes_eq-Decides}
 use Rattle.vbm_registry.specs.declared.media.Medium.{Medium}
 use Rattle.vbm_registry.specs.declared.library.Library.{Library}
+use Rattle.vbm_registry.specs.declared.reading.DecodeFault.{DecodeFault}
 use Rattle.vbm_registry.specs.Library.{mode_code, medium_onto, items_onto, list_onto, head, no_more, spelling, IsListed, IsLibrary}
-use Rattle.vbm_registry.specs.Reading.{limited_at, seed_at, media_at, no_more_at, listing, fields_at, to_offset, library_in}
+use Rattle.vbm_registry.specs.Reading.{limited_at, seed_at, media_at, no_more_at, listing, fields_at, to_offset, library_in, Decodes}
 use Rattle.vbm_registry.proofs.Fields.{IsBytes, IsBytes-drop, bind_ok, guard_ok, guard_true, ok_is, wide64, limited_takes, limited_again}
 use Rattle.vbm_registry.proofs.Parts.{short_name, seed_again, media_again, seed_takes, media_takes, no_more_takes}
 
@@ -121,3 +122,8 @@ accepted bytes l e =
     let t = fields_takes (drop 8 bytes) l (offset_ok (length bytes) (fields_at (drop 8 bytes)) l g.1) in
     let starts = starts_is bytes (not_false (starts_with nat_eq bytes head) h.0) in
     (t.0, λ fits. starts ∙ ap (λ (y : List ℕ). head ++ y) (t.1 (IsBytes-drop 8 bytes fits)) ∙ sym (spelled_is l))
+
+pub decoded : (bytes : List ℕ) (r : Result Library DecodeFault) → IsBytes bytes → Decodes r (library_in bytes)
+    → IfOk r (λ l. IsLibrary l × (bytes ≡ spelling l))
+decoded bytes (Ok l) fits e = let read = accepted bytes l e in (read.0, read.1 fits)
+decoded bytes (Err fault) fits e = tt

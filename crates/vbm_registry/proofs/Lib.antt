@@ -1,7 +1,6 @@
 pub mod Fields
 pub mod Items
 pub mod Names
-pub mod Maps
 pub mod Parts
 pub mod Again
 pub mod Stores

@@ -1,4 +1,3 @@
-pub mod Keyed
 pub mod Library
 pub mod Reading
 pub mod Stands

@@ -12,6 +12,7 @@ use crate::media::{Media, Medium};
 use std::alloc::Global;
 use std::cmp::Ordering;
 use uuid::Uuid;
+use vbm_machines::Machines;
 use vbm_modes::Mode;
 use vbm_ports::{NoMemory, Sequence, Text, names_medium};
 
@@ -220,7 +221,7 @@ fn read_fields(alloc: Global, bytes: &[u8]) -> Result<Library, Stop>
         inner,
         media,
         inners: Sequence::new(alloc),
-        machines: Sequence::new(alloc),
+        machines: Machines::new(alloc),
         making: None,
         merging: Sequence::new(alloc),
     })
@@ -235,14 +236,9 @@ pub enum DecodeFault {
     NoMemory,
 }
 
-/// The library that a file holds.
-///
-/// A file that does not begin as a library's does is bad at 0, and one of more than 2^20 bytes at 2^20. Otherwise the fault
-/// is at the first field that breaks a rule or that the file is too short for, or at the first byte after the last field.
 #[tactic(auto, unfolding(crate::specs::Reading::library_in))]
-pub fn decode(alloc: Global, bytes: &[u8]) -> Result<Library, DecodeFault>
-    ensures exact { Decodes result (library_in bytes.now) }
-    ensures spelled { IfOk result (λ l. IsLibrary l × (bytes.now ≡ spelling l)) }
+fn read_file(alloc: Global, bytes: &[u8]) -> Result<Library, DecodeFault>
+    ensures { Decodes result (library_in bytes.now) }
 {
     if !bytes.starts_with(HEAD) {
         return Err(DecodeFault::Bad(0));
@@ -255,4 +251,15 @@ pub fn decode(alloc: Global, bytes: &[u8]) -> Result<Library, DecodeFault>
         Err(Stop::NoMemory) => Err(DecodeFault::NoMemory),
         Err(Stop::Left(left)) => Err(DecodeFault::Bad(bytes.len().saturating_sub(left) as u32)),
     }
+}
+
+/// The library that a file holds.
+///
+/// A file that does not begin as a library's does is bad at 0, and one of more than 2^20 bytes at 2^20. Otherwise the fault
+/// is at the first field that breaks a rule or that the file is too short for, or at the first byte after the last field.
+pub fn decode(alloc: Global, bytes: &[u8]) -> Result<Library, DecodeFault>
+    ensures exact { Decodes result (library_in bytes.now) }
+    ensures spelled { IfOk result (λ l. IsLibrary l × (bytes.now ≡ spelling l)) }
+{
+    read_file(alloc, bytes)
 }

@@ -3,7 +3,7 @@ use Rattle.vbm_world.specs.Names.{Name, is_before}
 use Rattle.vbm_registry.specs.Library.{medium_entry_name}
 use Rattle.vbm_registry.specs.Reading.{medium_at, items_at}
 use Rattle.vbm_registry.proofs.Items.{SoFar}
-use Rattle.vbm_registry.proofs.Names.{ComesAfter}
+use Rattle.vbm_named.proofs.Order.{ComesAfter}
 use Rattle.vbm_registry.proofs.reading.read_items.Given as goal
 
 abbrev pub invariant-loop : goal.invariant-loop
