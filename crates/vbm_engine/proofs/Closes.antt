@@ -151,7 +151,6 @@ module _ (e : Engine) (files : Files) (name : Name) (delete : Bool) (holds : Hol
       fits = library_fits (removal name delete) now_library files apart (removal_fits name delete named files);
       holds = now_holds;
       by = now_by;
-      settles = λ u. ap (λ (o : Outcome). cond (is_refused o.0) u all_settled) (sym now_by);
       kept = λ n is. subst (KeepsBytes (files n)) (sym (now_file n (medium_not_library n is))) (kept_or (files n) (delete && bytes_eq name n));
       strays = λ n inner none. now_file n (inner_not_library n inner) ∙ none_or (files n) (delete && bytes_eq name n) none;
     }

@@ -1,5 +1,5 @@
 -- Making a medium.
-use Rattle.std.proofs.Common.{◌≡◌, ℕ, ◌+◌, ◌^◌, Bool, true, false, List, [], ◌∷◌, ◌++◌, map, length, Option, Some, None, Ok, refl, sym, ap, subst, ◌∙◌, arith, is_some, IsTrue, inl, inr, if◌then◌else◌, bytes_eq, option_copied, Bor}
+use Rattle.std.proofs.Common.{◌≡◌, ℕ, ◌+◌, ◌^◌, Bool, true, false, List, [], ◌∷◌, ◌++◌, map, length, Option, Some, None, Ok, refl, sym, ap, subst, ◌∙◌, arith, is_some, IsTrue, inl, inr, bytes_eq, option_copied, Bor}
 use Rattle.std.specs.Prelude.{nat_le}
 use Rattle.std.specs.Option.{option_map}
 use Rattle.std.proofs.lemmas.Bool.{and_parts, cases_Bool, false_from_ne_true, eqb-true}
@@ -25,13 +25,12 @@ use Rattle.vbm_world.specs.Names.{Name, has_name, put_by}
 use Rattle.vbm_world.specs.World.{World, medium_name, zero_disk}
 use Rattle.vbm_world.specs.Refusals.{capacity_of, is_bad_size, is_foreign, first_refusal, create_checks}
 use Rattle.vbm_world.specs.Step.{Outcome, step_of, made_medium, refused_or}
-use Rattle.vbm_world.specs.Loose.{all_settled, is_refused}
 use Rattle.vbm_world.proofs.Lists.{name_sym, put_map}
 use Rattle.vbm_registry.specs.declared.media.Medium.{Medium}
 use Rattle.vbm_registry.specs.declared.library.Library.{Library}
-use Rattle.vbm_registry.specs.Library.{library_name, medium_entry_name, spelling, IsLibrary}
-use Rattle.vbm_registry.specs.Reading.{library_in}
+use Rattle.vbm_registry.specs.Library.{library_name, medium_entry_name, IsLibrary}
 use Rattle.vbm_registry.specs.Stands.{shelved_file, header_in, medium_in, shelf_of, world_with, none_changed, read_library, library_file, library_of, id_in, IsStore}
+use Rattle.vbm_registry.proofs.Again.{read_again}
 use Rattle.vbm_registry.proofs.Stores.{SameFiles, SameBesides, same_media, header_frame, own_of_file, header_of_file, store_put, library_put}
 use Rattle.vbm_registry.proofs.Worlds.{is_medium_with, drawn_foreign, drawn_known, foreign_new, on_shelf, medium_of_file, with_shelved_none, world_put}
 use Rattle.vbm_engine.specs.declared.engine.Engine.{Engine}
@@ -42,16 +41,10 @@ use Rattle.vbm_engine.specs.Plans.{library_changes, image_changes}
 use Rattle.vbm_engine.specs.Creates.{first_check, CanCreate, new_entry, library_made as made_library, IsNewMedium, MakesMedium, Creates}
 use Rattle.vbm_engine.specs.Serves.{image_name, image_in, serves, IsSoundEngine, Holds}
 use Rattle.vbm_engine.specs.Steps.{KeepsBytes, Turns, Decides, DecidesSound}
+use Rattle.vbm_engine.proofs.Decisions.{medium_not_library, inner_not_library}
 use Rattle.vbm_engine.proofs.Planned.{library_made, library_frame, library_fits, image_alone, image_made, image_fits, image_frame}
 
 -- ---- names
-
-pub medium_not_library : (name : Name) → IsTrue (is_medium_name name) → bytes_eq library_name name ≡ false
-unfolding is_medium_name
-medium_not_library name named = false_from_ne_true _ (λ same.
-    let e : library_name ≡ name = (bytes_eq-Decides library_name name).0 same in
-    let t : false ≡ true = ap is_medium_name e ∙ named in
-    absurd cc)
 
 inner_not_medium : (name : Name) → IsTrue (is_inner_name name) → is_medium_name name ≡ false
 unfolding is_medium_name is_inner_name
@@ -61,13 +54,6 @@ inner_not_medium (x ∷ xs) is = false_from_ne_true _ (λ named.
     let brace : 123 ≡ x = eqb-true 123 x first.0 in
     let all = and_parts _ _ (and_parts _ _ (and_parts _ _ named).0).1 in
     let no : false ≡ true = ap is_name_character brace ∙ all.0 in
-    absurd cc)
-
-inner_not_library : (name : Name) → IsTrue (is_inner_name name) → bytes_eq library_name name ≡ false
-unfolding is_inner_name
-inner_not_library name is = false_from_ne_true _ (λ same.
-    let e : library_name ≡ name = (bytes_eq-Decides library_name name).0 same in
-    let t : false ≡ true = ap is_inner_name e ∙ is in
     absurd cc)
 
 -- ---- refusals
@@ -132,7 +118,7 @@ kept (Some f) (Some g) same = cc
 -- a medium that no check refuses, over files that the engine fits
 module _ (files : Files) (e : Engine) (name : Name) (size : Size) (h : Header) (sound : IsSoundEngine e) (holds : Holds e.library e.images files)
     (named : IsTrue (is_medium_name name)) (can : CanCreate e.library name (capacity_of size)) (absent : files name ≡ None)
-    (medium : IsNewMedium e.library (capacity_of size) h) (again : library_in (spelling (made_library e.library name)) ≡ Ok (made_library e.library name)) where
+    (medium : IsNewMedium e.library (capacity_of size) h) where
   abbrev l : Library
   l = e.library
 
@@ -149,7 +135,8 @@ module _ (files : Files) (e : Engine) (name : Name) (size : Size) (h : Header) (
   alone = image_alone name library_name h (name_sym name library_name ∙ medium_not_library name named)
 
   library_now : library_of now ≡ Ok made
-  library_now = ap library_file (library_made (image_changes name h) made files alone) ∙ ap read_library again
+  library_now = ap library_file (library_made (image_changes name h) made files alone)
+      ∙ ap read_library (read_again made (made_is_library l name (capacity_of size) sound.library named can))
 
   file_now : now name ≡ Some (made_image h)
   file_now = library_frame (image_changes name h) made files name (medium_not_library name named) ∙ image_made h medium.new name files medium.dynamic absent
@@ -221,7 +208,6 @@ module _ (files : Files) (e : Engine) (name : Name) (size : Size) (h : Header) (
     fits = library_fits (image_changes name h) made files alone (image_fits h medium.new name files absent);
     holds = record { read = library_now; store = store_now; headers = images_now };
     by = step_now none;
-    settles = λ u. ap (λ (o : Outcome). if is_refused o.0 then u else all_settled) (sym (step_now none));
     kept = λ other is_name. elim (cases_Bool (bytes_eq name other)) [
       | inl is ↦
           let same : name ≡ other = (bytes_eq-Decides name other).0 is in
@@ -240,10 +226,9 @@ turned : (files : Files) (e : Engine) (name : Name) (size : Size) (library : Lib
     → files name ≡ None → first_refusal (create_checks (serves e files) name (capacity_of size)) ≡ None
     → MakesMedium e name (capacity_of size) library images plan a → Turns files e (CreateMedium name size Standard) library images plan a
 turned files e name size library images plan a sound holds named can absent none makes =
-    let again = subst (λ l. library_in (spelling l) ≡ Ok l) makes.made makes.plans.again in
     let changes : plan ≡ image_changes name makes.header ++ library_changes (made_library e.library name) =
-    makes.plans.changes ∙ ap (λ l. image_changes name makes.header ++ library_changes l) makes.made in
-    let t = created files e name size makes.header sound holds named can absent makes.medium again none in
+    makes.changes ∙ ap (λ l. image_changes name makes.header ++ library_changes l) makes.made in
+    let t = created files e name size makes.header sound holds named can absent makes.medium none in
     rw (makes.made, makes.placed, changes, makes.answer) t
 
 pub decided_turn : (files : Files) (e : Engine) (name : Name) (size : Size) (d : Decided)

@@ -18,7 +18,7 @@ use Rattle.vbm_engine.specs.Opens.{empty_library, new_world, StandsNew, Makes}
 use Rattle.vbm_engine.specs.Recovers.{IsSettled}
 use Rattle.vbm_engine.specs.Inits.{IsNewPlan, with_library, MakesOver, IsOver, before, during}
 use Rattle.vbm_engine.proofs.Planned.{library_made, library_frame}
-use Rattle.vbm_engine.proofs.Creating.{medium_not_library}
+use Rattle.vbm_engine.proofs.Decisions.{medium_not_library}
 
 -- ---- the commit
 
@@ -113,3 +113,6 @@ pub after_sync : (seed : List ℕ) {tells : Type 0} (told : tells) (old mid new 
     → Passes old new (λ image. old.may_leave image ⊎ IsLikeRedone old.files image ⊎ StandsNew seed old.files image)
 after_sync seed told old mid new reads passes = Passes-trans old mid new _ _ _ reads.time passes (λ image now. inl now)
     (λ image now. inr (subst (λ f. IsLikeRedone f image ⊎ StandsNew seed f image) (reads.files told) now))
+
+pub like_itself : (files : Files) → IsLikeRedone files files
+like_itself files = record { good = λ result redo. record { result = result; redo = redo; same = λ name other. refl }; bad = λ bad. refl }

@@ -1,5 +1,5 @@
 -- Opening a store.
-use Rattle.std.proofs.Common.{◌≡◌, ◌≢◌, ℕ, ◌+◌, ◌^◌, ◌<◌, ◌≤◌, min, Bool, true, false, cond, List, [], ◌∷◌, ◌++◌, map, length, take, drop, get_or, Option, Some, None, Result, Ok, Err, refl, sym, ap, subst, ◌∙◌, arith, inl, inr, length-take}
+use Rattle.std.proofs.Common.{◌≡◌, ◌≢◌, ◌⊎◌, ℕ, ◌+◌, ◌^◌, ◌<◌, ◌≤◌, min, Bool, true, false, cond, List, [], ◌∷◌, ◌++◌, map, length, take, drop, get_or, Option, Some, None, Result, Ok, Err, refl, sym, ap, subst, ◌∙◌, arith, inl, inr, ⊎_elim, length-take}
 use Rattle.std.specs.Prelude.{nat_eq, ◌||◌}
 use Rattle.std.specs.List.{starts_with, list_any}
 use Rattle.std.specs.Str.{bytes_eq}
@@ -7,7 +7,7 @@ use Rattle.std.proofs.lemmas.Bool.{cases_lt, lt-ltb}
 use Rattle.std.proofs.lemmas.List.{take_all, drop_all, take-take, take-append-le, drop_more, map_push, map_more}
 use Rattle.vbm_ports.specs.Files.{Files, bytes_of, Reads}
 use Rattle.vbm_ports.specs.Crash.{Only}
-use Rattle.vbm_ports.specs.Disk.{DiskState, Passes, OnlyReads}
+use Rattle.vbm_ports.specs.Disk.{DiskState, Passes, OnlyReads, IsCoherent}
 use Rattle.vbm_ports.proofs.States.{Passes-trans, Passes-weaker}
 use Rattle.vbm_intent.specs.Changes.{log_name}
 use Rattle.vbm_intent.specs.Log.{IsShut, IsLikeRedone, RedoesTo}
@@ -25,12 +25,13 @@ use Rattle.vbm_registry.specs.Library.{head}
 use Rattle.vbm_registry.specs.Reading.{library_in}
 use Rattle.vbm_registry.specs.Stands.{library_file, library_of, read_library, header_in, header_fault, image_fault, file_fault, own_fault, id_in, first_fault, same_id_fault, media_fault, held_by, Stands}
 use Rattle.vbm_registry.proofs.Stores.{held_if_store, store_if_no_fault, stands_redone, stands_alike, stands_once, stands_shut}
+use Rattle.vbm_engine.specs.declared.engine.Engine.{Engine}
 use Rattle.vbm_engine.specs.declared.engine.Image.{Image}
 use Rattle.vbm_engine.specs.declared.engine.Opened.{Opened}
 use Rattle.vbm_engine.specs.declared.engine.Opened.TheVariants as opened
 use Rattle.vbm_engine.specs.Serves.{serves, image_in, Holds, IsReady}
 use Rattle.vbm_engine.specs.Recovers.{IsSettled}
-use Rattle.vbm_engine.specs.Opens.{StandsAlike, Opens, AreRedone}
+use Rattle.vbm_engine.specs.Opens.{StandsAlike, Opens, SyncsFirst, AreRedone}
 use Rattle.vbm_engine.specs.Images.{IsRead}
 use Rattle.vbm_engine.specs.declared.opening.Unopened.{Unopened}
 use Rattle.vbm_engine.specs.declared.opening.Unopened.TheVariants.{Bad, Failed, NoMemory}
@@ -180,8 +181,11 @@ module _ (tells : Type 0) (told : tells) (old mid new : DiskState) (redoes : Red
   only_now : Only new.files new.may_leave
   only_now image may = settled.only image (reads.images image may) ∙ sym (reads.files told)
 
+  shut_now : IsShut (new.files log_name)
+  shut_now = settled.shut new.files (reads.images new.files now)
+
   alike_now : StandsAlike old.files new.files
-  alike_now = after_redo old.files new.files redone_now (settled.shut new.files (reads.images new.files now))
+  alike_now = after_redo old.files new.files redone_now shut_now
 
   opens_now : (r : Opened) → OpensOf new.files r → Opens old new r
   opens_now (opened.Open e) holds = (
@@ -189,7 +193,7 @@ module _ (tells : Type 0) (told : tells) (old mid new : DiskState) (redoes : Red
     redone_now,
     (settled_ready e new holds only_now (λ image may. settled.shut image (reads.images image may)) now).1,
   )
-  opens_now (opened.Refused bad) held = (stands_redone new.files old.files (Err bad) redone_now held, inl redone_now)
+  opens_now (opened.Refused bad) held = (stands_redone new.files old.files (Err bad) redone_now held, inl (redone_now, shut_now))
   opens_now opened.Fault t = tt
   opens_now opened.NoMemory t = alike_now
 
@@ -199,3 +203,31 @@ module _ (tells : Type 0) (told : tells) (old mid new : DiskState) (redoes : Red
   pub redone_passes : Passes old mid (IsLikeRedone old.files) → Passes old new (StandsAlike old.files)
   redone_passes time = Passes-trans old mid new _ _ _ time reads.time (λ image like held. stands_alike old.files image held like)
       (λ image may. subst (StandsAlike old.files) (sym (settled.only image may ∙ sym (reads.files told))) alike_now)
+
+-- ---- the first sync
+
+-- a sync that returned, and a stretch after it
+pub syncs_first : (tells : Type 0) → tells → (old mid new : DiskState) → OnlyReads tells old mid → Only old.files mid.may_leave
+    → mid.moment ≡ old.moment + 1 → IsCoherent tells mid
+    → (Q : Files → Files → Type 0) → Q old.files old.files → Passes mid new (Q mid.files) → SyncsFirst old new (Q old.files)
+syncs_first tells told old mid new reads settled next laws Q at_once after = record {
+  later = omega (arith, next, after.later);
+  since = λ image left. ⊎_elim
+      (λ at. subst (Q old.files) (sym (settled image (laws.only_now image at))) at_once)
+      (λ then. subst (λ f. Q f image) (reads.files told) then)
+      (after.only mid.moment image (omega arith) (subst (λ t. new.left_since t image) (sym next) left));
+}
+
+-- another stretch after it
+pub syncs_goes_on : (old mid new : DiskState) (P Q R : Files → Type 0) → SyncsFirst old mid P → Passes mid new Q
+    → ((image : Files) → P image → R image) → ((image : Files) → Q image → R image) → SyncsFirst old new R
+syncs_goes_on old mid new P Q R first second at_first at_second = record {
+  later = omega (arith, first.later, second.later);
+  since = λ image left. ⊎_elim (λ was. at_first image (first.since image was)) (λ now. at_second image now)
+      (second.only (old.moment + 1) image (omega (arith, first.later)) left);
+}
+
+-- an engine is handed out only after the sync
+pub opened_synced : (e : Engine) {S F : Type 0} → S ⊎ ((opened.Open e ≡ opened.Fault) × F) → S
+opened_synced e (inl synced) = synced
+opened_synced e (inr failed) = let no : opened.Open e ≡ opened.Fault = failed.0 in absurd cc

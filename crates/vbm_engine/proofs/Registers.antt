@@ -34,9 +34,10 @@ use Rattle.vbm_world.proofs.Lists.{All-map, has_found, any_map, put_map}
 use Rattle.vbm_engine.specs.declared.engine.Engine.{Engine}
 use Rattle.vbm_engine.specs.declared.engine.Image.{Image}
 use Rattle.vbm_engine.specs.declared.engine.Decided.TheVariants as decided
+use Rattle.vbm_engine.specs.Creates.{new_entry}
 use Rattle.vbm_engine.specs.Images.{IsRead}
 use Rattle.vbm_engine.specs.Plans.{library_changes}
-use Rattle.vbm_engine.specs.Registers.{image_checks, opened_entry}
+use Rattle.vbm_engine.specs.Registers.{image_checks}
 use Rattle.vbm_engine.specs.Serves.{serves, image_name, image_in, IsSoundEngine, Holds}
 use Rattle.vbm_engine.specs.Steps.{KeepsBytes, Turns, Decides}
 use Rattle.vbm_engine.proofs.Decisions.{medium_not_library, inner_not_library, kept_or}
@@ -85,16 +86,16 @@ opens_taken e files name m is = refuses e files name NameTaken
     (rw (is_medium_with none_changed e.library files name ∙ has_found medium_entry_name name e.library.media ∙ ap is_some is) refl)
 
 pub images_more : (e : Engine) (image : Image) → IsSoundEngine e
-    → map image_name (put_by image_name image e.images) ≡ map medium_entry_name (put_by medium_entry_name (opened_entry image.name) e.library.media)
+    → map image_name (put_by image_name image e.images) ≡ map medium_entry_name (put_by medium_entry_name (new_entry image.name) e.library.media)
 images_more e image sound =
     put_map image_name image_name (λ n. n) (λ x. refl) image e.images
     ∙ ap (put_by (λ n. n) image.name) sound.images
-    ∙ sym (put_map medium_entry_name medium_entry_name (λ n. n) (λ x. refl) (opened_entry image.name) e.library.media)
+    ∙ sym (put_map medium_entry_name medium_entry_name (λ n. n) (λ x. refl) (new_entry image.name) e.library.media)
 
 pub library_more : (e : Engine) (h : Header) (name : Name) → first_refusal (image_checks e.library e.images h) ≡ None → IsLibrary e.library
-    → IsTrue (is_medium_name name) → has_name medium_entry_name name e.library.media ≡ false → IsLibrary (with_entry e.library (opened_entry name))
+    → IsTrue (is_medium_name name) → has_name medium_entry_name name e.library.media ≡ false → IsLibrary (with_entry e.library (new_entry name))
 library_more e h name allowed lib named free =
-    library_put e.library (opened_entry name) e.library.next lib (record { name = named; mode = refl }) free
+    library_put e.library (new_entry name) e.library.next lib (record { name = named; mode = refl }) free
     (welcome e.library e.images h allowed).room lib.next
 
 module _ (e : Engine) (files : Files) (name : Name) (holds : Holds e.library e.images files) (lib : IsLibrary e.library)
@@ -147,7 +148,7 @@ module _ (e : Engine) (files : Files) (name : Name) (holds : Holds e.library e.i
       is_welcome = welcome e.library e.images h allowed
 
       abbrev more : Library
-      more = with_entry e.library (opened_entry name)
+      more = with_entry e.library (new_entry name)
 
       abbrev now : Files
       now = changed (library_changes more) files
@@ -170,12 +171,12 @@ module _ (e : Engine) (files : Files) (name : Name) (holds : Holds e.library e.i
       more_holds : Holds more (put_by image_name (record { name = name; header = h }) e.images) now
       more_holds = record {
         read = ap library_file (library_made [] more files refl) ∙ ap read_library (read_again more (library_more e h name allowed lib named free));
-        store = store_put e.library files now (opened_entry name) e.library.next holds.store (omega arith) same
-            (own_of_file e.library now (opened_entry name) f.file h here f.is is_welcome.whole is_welcome.known)
+        store = store_put e.library files now (new_entry name) e.library.next holds.store (omega arith) same
+            (own_of_file e.library now (new_entry name) f.file h here f.is is_welcome.whole is_welcome.known)
             (rw (id_in, header) (sym (has_id_with none_changed e.library files h.id) ∙ has_id_here h.id ∙ is_welcome.new));
-        headers = rw (sym header) (ap (put_by image_name (image_in now (opened_entry name))) (holds.headers
+        headers = rw (sym header) (ap (put_by image_name (image_in now (new_entry name))) (holds.headers
             ∙ sym (images_same files now e.library.media (All-map _ _ (λ m is. header_frame files now m.name is) e.library.media same)))
-            ∙ sym (put_map (image_in now) medium_entry_name image_name (λ m. refl) (opened_entry name) e.library.media));
+            ∙ sym (put_map (image_in now) medium_entry_name image_name (λ m. refl) (new_entry name) e.library.media));
       }
 
       more_by : (Id h.id, world_with none_changed more now) ≡ step_of (serves e files) (OpenMedium name) 0
@@ -183,9 +184,9 @@ module _ (e : Engine) (files : Files) (name : Name) (holds : Holds e.library e.i
       more_by =
           let w = world_with none_changed e.library files in
           rw (opens_image, allowed, is_welcome.whole) (ap (λ (v : World). (Id h.id, v))
-          (world_put none_changed e.library files now (opened_entry name) e.library.next lib others free
+          (world_put none_changed e.library files now (new_entry name) e.library.next lib others free
           ∙ ap (λ m. record w { media = put_by medium_name m w.media; shelf = with_shelved w.shelf name None })
-          (medium_of_file none_changed now (opened_entry name) f.file h here f.is)))
+          (medium_of_file none_changed now (new_entry name) f.file h here f.is)))
 
       opens_more : Turns files e (OpenMedium name) more (put_by image_name (record { name = name; header = h }) e.images)
           (library_changes more) (Id h.id)
@@ -193,7 +194,6 @@ module _ (e : Engine) (files : Files) (name : Name) (holds : Holds e.library e.i
         fits = library_fits [] more files refl (λ n. tt);
         holds = more_holds;
         by = more_by;
-        settles = λ u. ap (λ (o : Outcome). cond (is_refused o.0) u all_settled) (sym more_by);
         kept = λ n is. subst (KeepsBytes (files n)) (sym (frame n (medium_not_library n is))) (kept_or (files n) false);
         strays = λ n inner none. frame n (inner_not_library n inner) ∙ none;
       }

@@ -4,7 +4,7 @@ use Rattle.vbm_ports.specs.Files.{Files}
 use Rattle.vbm_ports.specs.Disk.{DiskState, Passes, OnlyReads}
 use Rattle.vbm_ports.specs.Crash.{Only}
 use Rattle.vbm_ports.specs.Names.{is_inner_name}
-use Rattle.vbm_ports.proofs.States.{Passes-trans}
+use Rattle.vbm_ports.proofs.States.{Passes-trans, Passes-weaker}
 use Rattle.vbm_intent.specs.declared.change.Change.{Change}
 use Rattle.vbm_intent.specs.declared.log.Log.{Log}
 use Rattle.vbm_intent.specs.Changes.{log_name, changed}
@@ -33,6 +33,12 @@ before_step w c u image stands = inl (record {
   stands = stands.stands;
   loosely = loosely_weaker u (both u (unsettled_after u w c)) (λ vm port sector t. rw t refl) (off w) stands.world stands.loosely;
 })
+
+-- what only reads leaves no other
+pub read_passes : {tells : Type 0} {e : Engine} {old new : DiskState} (c : Command) → OnlyReads tells old new → IsSoundEngine e
+    → (u : Unsettled) → IsReady e old u → Passes old new (IsInStep (serves e old.files) c u)
+read_passes {e = e} {old = old} {new = new} c reads sound u ready =
+    Passes-weaker old new _ _ reads.time (λ image may. before_step _ c u image (ready_stands e old u sound ready image may))
 
 inner_not_log : (name : Name) → IsTrue (is_inner_name name) → name ≢ log_name
 unfolding is_inner_name

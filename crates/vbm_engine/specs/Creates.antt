@@ -1,5 +1,5 @@
 -- What the making of a medium is made of.
-use Rattle.std.specs.Prelude.{◌≡◌, ℕ, ◌+◌, ◌<◌, ◌^◌, Bool, List, [], ◌∷◌, ◌++◌, length, Option, Ok, false}
+use Rattle.std.specs.Prelude.{◌≡◌, ℕ, ◌+◌, ◌<◌, ◌^◌, Bool, List, [], ◌∷◌, ◌++◌, length, Option, false}
 use Rattle.vbm_header.specs.declared.Header.{Header}
 use Rattle.vbm_header.specs.declared.ImageType.TheVariants.{Dynamic}
 use Rattle.vbm_volume.specs.Made.{IsNewHeader}
@@ -16,8 +16,7 @@ use Rattle.vbm_world.specs.Names.{Name, has_name, put_by}
 use Rattle.vbm_world.specs.Refusals.{first_refusal, is_bad_size}
 use Rattle.vbm_registry.specs.declared.media.Medium.{Medium}
 use Rattle.vbm_registry.specs.declared.library.Library.{Library}
-use Rattle.vbm_registry.specs.Library.{medium_entry_name, with_entry, spelling}
-use Rattle.vbm_registry.specs.Reading.{library_in}
+use Rattle.vbm_registry.specs.Library.{medium_entry_name, with_entry}
 use Rattle.vbm_engine.specs.declared.engine.Engine.{Engine}
 use Rattle.vbm_engine.specs.declared.engine.Image.{Image}
 use Rattle.vbm_engine.specs.declared.engine.Decided.{Decided}
@@ -53,18 +52,13 @@ pub record IsNewMedium (l : Library) (capacity : ℕ) (h : Header) : Type 0 wher
   pub id : h.id ≡ identifier_of l.seed kinds.Medium l.next
   pub modify : h.modify ≡ identifier_of l.seed kinds.Modify l.next
 
--- a plan that makes the image and writes the library, which can be read again
-pub record PlansCreate (name : Name) (h : Header) (l : Library) (plan : List Change) : Type 0 where
-  pub changes : plan ≡ image_changes name h ++ library_changes l
-  pub again : library_in (spelling l) ≡ Ok l
-
 -- what is decided where the medium is made
 pub record MakesMedium (e : Engine) (name : Name) (capacity : ℕ) (library : Library) (images : List Image) (plan : List Change) (a : Answer) : Type 0 where
   pub header : Header
   pub medium : IsNewMedium e.library capacity header
   pub made : library ≡ library_made e.library name
   pub placed : images ≡ put_by image_name (record { name = name; header = header }) e.images
-  pub plans : PlansCreate name header library plan
+  pub changes : plan ≡ image_changes name header ++ library_changes library
   pub answer : a ≡ Id header.id
 
 abbrev pub Creates : Engine → Name → ℕ → Decided → Type 0

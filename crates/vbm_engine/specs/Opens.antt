@@ -1,10 +1,10 @@
 -- What opening a store gives, and what making one does.
-use Rattle.std.specs.Prelude.{◌≡◌, ◌≢◌, ◌⊎◌, ℕ, List, [], None, Result, Ok, Err}
+use Rattle.std.specs.Prelude.{◌≡◌, ◌≢◌, ◌⊎◌, ◌+◌, ◌<◌, ℕ, List, [], None, Result, Ok, Err}
 use Rattle.vbm_ports.specs.Files.{Files}
 use Rattle.vbm_ports.specs.Disk.{DiskState}
 use Rattle.vbm_ports.specs.Crash.{Only}
 use Rattle.vbm_intent.specs.Changes.{log_name}
-use Rattle.vbm_intent.specs.Log.{Redo, RedoesTo, IsBadLog, SameBesidesLog}
+use Rattle.vbm_intent.specs.Log.{Redo, RedoesTo, IsBadLog, IsShut, IsLikeRedone, SameBesidesLog}
 use Rattle.vbm_world.specs.Names.{Name}
 use Rattle.vbm_world.specs.World.{World}
 use Rattle.vbm_world.specs.Loose.{Unsettled}
@@ -19,9 +19,9 @@ use Rattle.vbm_engine.specs.declared.engine.Made.{Made}
 use Rattle.vbm_engine.specs.declared.engine.Made.TheVariants as made
 use Rattle.vbm_engine.specs.Serves.{serves, IsSoundEngine, IsReady}
 
--- the files after redo, the log aside, or as they were where the log is bad
+-- The files after redo, the log aside, which is shut; or as they were where the log is bad.
 abbrev pub AreRedone : Files → Files → Type 0
-AreRedone files now = RedoesTo now files ⊎ (IsBadLog files × (now ≡ files))
+AreRedone files now = (RedoesTo now files × IsShut (now log_name)) ⊎ (IsBadLog files × (now ≡ files))
 
 -- an image stands for what the files stand for
 abbrev pub StandsAlike : Files → Files → Type 0
@@ -34,6 +34,11 @@ Opens old new (opened.Open e) =
 Opens old new (opened.Refused bad) = Stands old.files (Err bad) × AreRedone old.files new.files
 Opens old new opened.Fault = Unit {0}
 Opens old new opened.NoMemory = StandsAlike old.files new.files
+
+-- A sync came first, which is one moment: each image of the next moment, or of a later one, has P.
+pub record SyncsFirst (old new : DiskState) (P : Files → Type 0) : Type 0 where
+  pub later : old.moment < new.moment
+  pub since : (image : Files) → new.left_since (old.moment + 1) image → P image
 
 abbrev pub OpensSound : Opened → Type 0
 OpensSound (opened.Open e) = IsSoundEngine e
@@ -88,3 +93,7 @@ OnMadeFailed made.NoMemory P = Unit {0}
 -- an image of the new store
 abbrev pub StandsNew : List ℕ → Files → Files → Type 0
 StandsNew seed files image = (redone : Files) × Redo files redone × Stands image (Ok (new_world seed redone))
+
+-- an image while the store is made: what redo gives of the files, or the new store
+abbrev pub IsMaking : List ℕ → Files → Files → Type 0
+IsMaking seed files image = IsLikeRedone files image ⊎ StandsNew seed files image

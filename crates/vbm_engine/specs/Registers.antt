@@ -1,15 +1,12 @@
--- What opening a medium asks of an accepted file, and its entry.
+-- What opening a medium asks of an accepted file.
 use Rattle.std.specs.Prelude.{List, [], ◌∷◌, length, nat_le}
 use Rattle.std.specs.List.{list_any}
 use Rattle.std.specs.Str.{bytes_eq}
 use Rattle.vbm_header.specs.declared.Header.{Header}
 use Rattle.vbm_header.specs.Header.{is_differencing}
-use Rattle.vbm_modes.specs.declared.Mode.TheVariants.{Normal}
 use Rattle.vbm_world.specs.declared.command.Refusal.TheVariants.{DuplicateId, ForeignId, Full, BrokenChain}
 use Rattle.vbm_world.specs.declared.command.Which.TheVariants.{Media}
-use Rattle.vbm_world.specs.Names.{Name}
 use Rattle.vbm_world.specs.Refusals.{Check, is_foreign}
-use Rattle.vbm_registry.specs.declared.media.Medium.{Medium}
 use Rattle.vbm_registry.specs.declared.library.Library.{Library}
 use Rattle.vbm_engine.specs.declared.engine.Image.{Image}
 
@@ -21,7 +18,3 @@ image_checks l images h =
     ∷ (nat_le 1024 (length l.media), Full Media)
     ∷ (is_differencing h.image_type, BrokenChain 0)
     ∷ []
-
--- the entry of a medium that was opened
-abbrev pub opened_entry : Name → Medium
-opened_entry name = record { name = name; mode = Normal }

@@ -10,7 +10,7 @@ use Rattle.vbm_world.specs.declared.command.Answer.{Answer}
 use Rattle.vbm_world.specs.Names.{Name}
 use Rattle.vbm_world.specs.World.{World, off}
 use Rattle.vbm_world.specs.Step.{step_of}
-use Rattle.vbm_world.specs.Loose.{Unsettled, all_settled, unsettled_after}
+use Rattle.vbm_world.specs.Loose.{Unsettled, unsettled_after}
 use Rattle.vbm_registry.specs.declared.library.Library.{Library}
 use Rattle.vbm_registry.specs.Library.{medium_entry_name, IsLibrary}
 use Rattle.vbm_registry.specs.Stands.{world_with, none_changed}
@@ -86,7 +86,6 @@ pub record Turns (files : Files) (e : Engine) (c : Command) (library : Library) 
   pub fits : Fits plan files
   pub holds : Holds library images (changed plan files)
   pub by : (a, world_with none_changed library (changed plan files)) ≡ step_of (serves e files) c 0
-  pub settles : (u : Unsettled) → unsettled_after u (serves e files) c ≡ all_settled
   pub kept : AreKept files (changed plan files)
   pub strays : (name : Name) → IsTrue (is_inner_name name) → files name ≡ None → changed plan files name ≡ None
 

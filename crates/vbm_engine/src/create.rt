@@ -16,7 +16,7 @@ ghost use Rattle.vbm_registry.specs.Stands.{world_with, none_changed};
 ghost use Rattle.vbm_engine.specs.Plans.{library_changes, image_changes};
 ghost use Rattle.vbm_engine.specs.Serves.{IsSoundEngine, FitsDisk};
 ghost use Rattle.vbm_engine.specs.Steps.{Decides, DecidesSound, OnFailed};
-ghost use Rattle.vbm_engine.specs.Creates.{first_check, library_made, CanCreate, IsNewMedium, Creates, PlansCreate};
+ghost use Rattle.vbm_engine.specs.Creates.{first_check, library_made, CanCreate, IsNewMedium, Creates};
 
 use crate::engine::{Decided, Engine, Image};
 use crate::images::with_image;
@@ -119,7 +119,7 @@ fn plan_of(alloc: Global, name: &[u8], header: &Header, library: &Library) -> Re
     requires name { IsTrue (is_medium_name name.now) }
     requires header { IsNewHeader header.now }
     requires library { IsLibrary library.now }
-    ensures { IfOk result (λ plan. PlansCreate name.now header.now library.now plan.changes) }
+    ensures { IfOk result (λ plan. plan.changes ≡ image_changes name.now header.now ++ library_changes library.now) }
 {
     let mut plan = Plan::new(alloc);
     plan_create(alloc, &mut plan, name, header)?;

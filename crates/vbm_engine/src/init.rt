@@ -3,10 +3,10 @@
 ghost use Rattle.std.specs.Prelude.{◌≡◌, ◌≤◌, ◌⊎◌, None, IfOk};
 ghost use Rattle.vbm_ports.specs.Counts.{Rose};
 ghost use Rattle.vbm_ports.specs.Crash.{Only};
-ghost use Rattle.vbm_ports.specs.Disk.{Passes};
+ghost use Rattle.vbm_ports.specs.Disk.{Passes, OnlyReads};
 ghost use Rattle.vbm_intent.specs.Log.{IsLikeRedone};
 ghost use Rattle.vbm_registry.specs.Library.{library_name};
-ghost use Rattle.vbm_engine.specs.Opens.{empty_library, Makes, OnMadeFailed, StandsNew};
+ghost use Rattle.vbm_engine.specs.Opens.{empty_library, Makes, SyncsFirst, OnMadeFailed, StandsNew, IsMaking};
 ghost use Rattle.vbm_engine.specs.Recovers.{IsSettled};
 ghost use Rattle.vbm_engine.specs.Inits.{IsNewPlan, MakesOver, IsOver};
 
@@ -16,6 +16,7 @@ use crate::recover::{Recovered, recover};
 use std::alloc::Global;
 use uuid::Uuid;
 use vbm_intent::{Log, Plan};
+use vbm_machines::Machines;
 use vbm_ports::{Disk, Failed, NoMemory, Sequence};
 use vbm_registry::{BadStore, Library, Media};
 
@@ -28,7 +29,7 @@ fn empty_library(alloc: Global, seed: Uuid) -> Library
         inner: 0,
         media: Media::new(alloc),
         inners: Sequence::new(alloc),
-        machines: Sequence::new(alloc),
+        machines: Machines::new(alloc),
         making: None,
         merging: Sequence::new(alloc),
     }
@@ -102,6 +103,8 @@ pub fn make_library<D: Disk>(alloc: Global, disk: &mut D, seed: Uuid) -> Made
     ensures made { D.tells → Makes seed (D.state disk.old) (D.state disk.new) result }
     ensures any_moment { D.tells → Passes (D.state disk.old) (D.state disk.new)
         (λ image. (D.state disk.old).may_leave image ⊎ IsLikeRedone (D.state disk.old).files image ⊎ StandsNew seed (D.state disk.old).files image) }
+    ensures synced { D.tells → SyncsFirst (D.state disk.old) (D.state disk.new) (IsMaking seed (D.state disk.old).files)
+        ⊎ ((result ≡ Made.Failed) × OnlyReads D.tells (D.state disk.old) (D.state disk.new)) }
     ensures faults { (D.state disk.old).faults ≤ (D.state disk.new).faults }
     ensures cause { OnMadeFailed result (Rose (D.state disk.old).faults (D.state disk.new).faults) }
 {

@@ -13,7 +13,7 @@ ghost use Rattle.vbm_registry.specs.Reading.{library_in};
 ghost use Rattle.vbm_registry.specs.Stands.{library_of, read_library, header_fault, file_fault, own_fault, same_id_fault, media_fault, held_by};
 ghost use Rattle.vbm_engine.specs.Images.{OpensImage};
 ghost use Rattle.vbm_engine.specs.Serves.{image_name, image_in, Holds, IsSoundEngine};
-ghost use Rattle.vbm_engine.specs.Opens.{Opens, OpensSound, OnFault, StandsAlike};
+ghost use Rattle.vbm_engine.specs.Opens.{Opens, SyncsFirst, OpensSound, OnFault, StandsAlike};
 ghost use Rattle.vbm_engine.specs.Parts.{OnBad, Finds, ids_of, fault_behind, OpensOf};
 
 use crate::engine::{Engine, Image, Images, Opened};
@@ -43,12 +43,15 @@ pub(crate) enum Unopened {
 }
 
 /// Opens a store: makes the changes that wait in its log, and reads its library and every image of it. The first fault of the
-/// store is the answer otherwise. A crash inside it, any number of times, changes nothing of what the store stands for.
+/// store is the answer otherwise. A crash inside it, any number of times, changes nothing of what the store stands for: until
+/// its first sync has returned it leaves what it could have left at the call, and from then on what stands for the same.
 pub fn open<D: Disk>(alloc: Global, disk: &mut D) -> Opened
     ensures opens { D.tells → Opens (D.state disk.old) (D.state disk.new) result }
     ensures sound { OpensSound result }
     ensures any_moment { D.tells → Passes (D.state disk.old) (D.state disk.new)
         (λ image. (D.state disk.old).may_leave image ⊎ StandsAlike (D.state disk.old).files image) }
+    ensures synced { D.tells → SyncsFirst (D.state disk.old) (D.state disk.new) (StandsAlike (D.state disk.old).files)
+        ⊎ ((result ≡ Opened.Fault) × OnlyReads D.tells (D.state disk.old) (D.state disk.new)) }
     ensures faults { (D.state disk.old).faults ≤ (D.state disk.new).faults }
     ensures cause { OnFault result (Rose (D.state disk.old).faults (D.state disk.new).faults) }
 {

@@ -13,7 +13,8 @@ ghost use Rattle.vbm_world.specs.Refusals.{first_refusal};
 ghost use Rattle.vbm_world.specs.declared.command.Command.TheVariants.{OpenMedium};
 ghost use Rattle.vbm_engine.specs.Images.{IsRead};
 ghost use Rattle.vbm_engine.specs.Plans.{library_changes};
-ghost use Rattle.vbm_engine.specs.Registers.{image_checks, opened_entry};
+ghost use Rattle.vbm_engine.specs.Creates.{new_entry};
+ghost use Rattle.vbm_engine.specs.Registers.{image_checks};
 ghost use Rattle.vbm_engine.specs.Serves.{image_name, IsSoundEngine, Holds, FitsDisk};
 ghost use Rattle.vbm_engine.specs.Steps.{Decides, DecidesSound, OnFailed};
 
@@ -65,7 +66,7 @@ fn image_refusal(engine: &Engine, header: &Header) -> Option<Refusal>
 fn library_with(alloc: Global, library: &Library, name: &[u8]) -> Result<Library, NoMemory>
     requires sound { IsLibrary library.now }
     requires free { IsFalse (has_name medium_entry_name name.now library.now.media) }
-    ensures { IfOk result (λ l. l ≡ with_entry library.now (opened_entry name.now)) }
+    ensures { IfOk result (λ l. l ≡ with_entry library.now (new_entry name.now)) }
 {
     let name = Text::new(alloc, name)?;
     library.with_medium(
@@ -94,11 +95,11 @@ fn add_entry(
 ) -> Result<(Library, Images, Plan), NoMemory>
     requires sound { IsLibrary engine.now.library }
     requires free { IsFalse (has_name medium_entry_name image.name engine.now.library.media) }
-    requires grown { IsLibrary (with_entry engine.now.library (opened_entry image.name)) }
-    ensures library { IfOk result (λ x. x.0 ≡ with_entry engine.now.library (opened_entry image.name)) }
+    requires grown { IsLibrary (with_entry engine.now.library (new_entry image.name)) }
+    ensures library { IfOk result (λ x. x.0 ≡ with_entry engine.now.library (new_entry image.name)) }
     ensures images { IfOk result (λ x. x.1 ≡ put_by image_name image engine.now.images) }
     ensures plan { IfOk result (λ x. x.2.changes
-        ≡ library_changes (with_entry engine.now.library (opened_entry image.name))) }
+        ≡ library_changes (with_entry engine.now.library (new_entry image.name))) }
 {
     let library = library_with(alloc, &engine.library, image.name.bytes())?;
     let plan = library_plan(alloc, &library)?;

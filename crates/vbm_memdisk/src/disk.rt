@@ -346,6 +346,8 @@ impl Disk for MemDisk {
     fn sync(&mut self) -> Result<(), Failed>
         ensures settled { Unit {0}
             → OnOk result (Only (memory_state self.old).files (memory_state self.new).may_leave) }
+        ensures next { Unit {0}
+            → OnOk result ((memory_state self.new).moment ≡ (memory_state self.old).moment + 1) }
         ensures reads { OnlyReads (Unit {0}) (memory_state self.old) (memory_state self.new) }
         ensures calls { (memory_state self.new).calls ≡ counted (memory_state self.old).calls }
         ensures cause { OnErr result (Rose (memory_state self.old).faults (memory_state self.new).faults) }

@@ -82,9 +82,11 @@ pub trait Disk {
         ensures counts { CountsCall (state self.old) (state self.new) }
         ensures cause { OnErr result (Rose (state self.old).faults (state self.new).faults) };
 
-    /// Settles all files and the folder: a crash then leaves what reads give. A sync that fails settles nothing.
+    /// Settles all files and the folder: a crash then leaves what reads give, from the next moment on. A sync that fails settles
+    /// nothing.
     fn sync(&mut self) -> Result<(), Failed>
         ensures settled { tells → OnOk result (Only (state self.old).files (state self.new).may_leave) }
+        ensures next { tells → OnOk result ((state self.new).moment ≡ (state self.old).moment + 1) }
         ensures reads { OnlyReads tells (state self.old) (state self.new) }
         ensures calls { (state self.new).calls ≡ counted (state self.old).calls }
         ensures cause { OnErr result (Rose (state self.old).faults (state self.new).faults) };

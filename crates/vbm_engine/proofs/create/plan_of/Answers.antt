@@ -4,7 +4,7 @@ use Rattle.vbm_intent.specs.Changes.{of_file}
 use Rattle.vbm_world.proofs.Lists.{name_sym}
 use Rattle.vbm_registry.specs.Library.{library_name}
 use Rattle.vbm_engine.specs.Plans.{image_changes}
-use Rattle.vbm_engine.proofs.Creating.{medium_not_library}
+use Rattle.vbm_engine.proofs.Decisions.{medium_not_library}
 use Rattle.vbm_engine.proofs.Planned.{image_alone}
 use Rattle.vbm_engine.proofs.create.plan_of.Goals as goal
 

@@ -1,9 +1,10 @@
 use Rattle.std.proofs.Common.{Ok, sym, subst}
 use Rattle.std.proofs.lemmas.Result.{on_ok_weaker}
+use Rattle.vbm_ports.proofs.States.{Passes-weaker}
 use Rattle.vbm_world.specs.World.{off}
 use Rattle.vbm_registry.specs.Stands.{Stands}
 use Rattle.vbm_engine.specs.Serves.{serves}
-use Rattle.vbm_engine.proofs.Readiness.{fits_stands}
+use Rattle.vbm_engine.proofs.Readiness.{fits_stands, ready_stands}
 use Rattle.vbm_engine.proofs.engine.Engine.close.Goals as goal
 
 pub returns-clause-stands : goal.returns-clause-stands
@@ -13,3 +14,8 @@ returns-clause-stands g c told =
     on_ok_weaker c.sync.result
     (λ settled. subst (λ f. Stands f (Ok (off (serves c.args.self old.files)))) (sym (c.sync.ensures.reads.files told)) here)
     (c.sync.ensures.settled told)
+
+pub returns-clause-any_moment : goal.returns-clause-any_moment
+returns-clause-any_moment g c told u ready =
+    let old = g.D.Disk.state c.args.disk.now in
+    Passes-weaker old (g.D.Disk.state c.sync.new.self) _ _ c.sync.ensures.reads.time (ready_stands c.args.self old u c.requires.sound ready)

@@ -1,4 +1,4 @@
-use Rattle.vbm_engine.proofs.Turning.{commit_passes, commit_advances}
+use Rattle.vbm_engine.proofs.Turning.{read_passes, commit_passes, commit_advances}
 use Rattle.vbm_engine.proofs.engine.Engine.step.Goals as goal
 
 pub returns-in-Ok-clause-step : goal.returns-in-Ok-clause-step
@@ -17,3 +17,6 @@ pub returns-clause-any_moment : goal.returns-clause-any_moment
 returns-clause-any_moment g c told =
     let turn = c.in-Turn.ensures in
     commit_passes told turn.reads (turn.decides told) turn.sound.0 (c.commit.ensures.any_moment told) c.requires.sound
+
+pub returns-in-Failed-clause-any_moment : goal.returns-in-Failed-clause-any_moment
+returns-in-Failed-clause-any_moment g c told = read_passes c.args.command.now c.in-Failed.ensures.reads c.requires.sound
