@@ -1,5 +1,6 @@
 -- The lines of an input, and the words of a line.
-use Rattle.std.specs.Prelude.{ℕ, ◌^◌, ◌==◌, ◌&&◌, ◌||◌, not, nat_lt, Bool, true, false, if◌then◌else◌, List, [], ◌∷◌, length}
+use Rattle.std.specs.Prelude.{◌≡◌, ◌⊎◌, ℕ, ◌^◌, ◌==◌, ◌&&◌, ◌||◌, nat_lt, Bool, true, false, if◌then◌else◌, List, [], ◌∷◌, ◌++◌, length, map, IsFalse}
+use Rattle.std.specs.List.{list_any}
 use Rattle.vbm_world.specs.Texts.{Words}
 
 -- a byte before the first of these pieces
@@ -24,6 +25,14 @@ lines_of (b ∷ bytes) =
     else if (b == 13) && begins_with is_newline bytes then lines_of bytes
     else before_first b (lines_of bytes)
 
+-- whole lines: no bytes, or a newline is the last of them
+abbrev pub AreWhole : List ℕ → Type 0
+AreWhole bytes = (bytes ≡ []) ⊎ ((front : List ℕ) × (bytes ≡ front ++ 10 ∷ []))
+
+-- no newline is among the bytes
+abbrev pub HasNoNewline : List ℕ → Type 0
+HasNoNewline bytes = IsFalse (list_any is_newline bytes)
+
 -- a tab or a space
 abbrev pub is_blank : ℕ → Bool
 is_blank b = (b == 9) || (b == 32)
@@ -40,11 +49,32 @@ words_in (b ∷ bytes) =
 abbrev pub is_long : List ℕ → Bool
 is_long line = nat_lt (2 ^ 14) (length line)
 
+-- a line as it is read: of one that is too long nothing else matters
+pub data Line : Type 0 where
+  Short : List ℕ → Line
+  TooLong : Line
+
+abbrev pub line_in : List ℕ → Line
+line_in line = if is_long line then TooLong else Short line
+
+abbrev pub read_lines : List ℕ → List Line
+read_lines input = map line_in (lines_of input)
+
+-- the lines of an input that a newline ends: all but what stands behind the last newline
+pub record AreEnded (input : List ℕ) (lines : List Line) : Type 0 where
+  pub front : List ℕ
+  pub tail : List ℕ
+  pub split : input ≡ front ++ tail
+  pub whole : AreWhole front
+  pub unended : HasNoNewline tail
+  pub are : lines ≡ read_lines front
+
 -- no words, or a comment
 abbrev pub says_nothing : Words → Bool
 says_nothing [] = true
 says_nothing (word ∷ words) = begins_with (λ b. b == 35) word
 
--- A line that gets no answer: it is empty or its first word begins with `#`, and it is not too long.
-abbrev pub is_skipped : List ℕ → Bool
-is_skipped line = not (is_long line) && says_nothing (words_in line)
+-- A line that gets no answer: it is empty, or its first word begins with `#`.
+abbrev pub is_skipped : Line → Bool
+is_skipped (Short line) = says_nothing (words_in line)
+is_skipped TooLong = false

@@ -1,5 +1,5 @@
--- A run of the machine through lines.
-use Rattle.std.specs.Prelude.{◌≡◌, ◌⊎◌, ℕ, List, [], ◌∷◌, ◌++◌, Option, Some, None, option_to_list, IsTrue, IsFalse}
+-- A run of the machine through lines, and the sectors that it leaves unsettled.
+use Rattle.std.specs.Prelude.{◌≡◌, ℕ, List, [], ◌∷◌, ◌++◌, Option, Some, None, option_to_list, IsTrue, IsFalse}
 use Rattle.vbm_world.specs.declared.command.Command.{Command}
 use Rattle.vbm_world.specs.declared.command.Answer.{Answer}
 use Rattle.vbm_world.specs.declared.command.Answer.TheVariants.{Refused}
@@ -7,29 +7,30 @@ use Rattle.vbm_world.specs.declared.command.Refusal.TheVariants.{BadLine}
 use Rattle.vbm_world.specs.World.{World}
 use Rattle.vbm_world.specs.Step.{step_of}
 use Rattle.vbm_world.specs.Texts.{IsCommand, IsNoCommand}
-use Rattle.vbm_world.specs.Lines.{words_in, is_long, is_skipped}
+use Rattle.vbm_world.specs.Loose.{Unsettled, unsettled_after}
+use Rattle.vbm_world.specs.Lines.{Line, Short, TooLong, words_in, says_nothing, is_skipped}
 
 -- a line is this command
-pub record IsCommandLine (line : List ℕ) (command : Command) : Type 0 where
-  pub read : IsFalse (is_skipped line)
-  pub short : IsFalse (is_long line)
-  pub is : IsCommand (words_in line) command
+abbrev pub IsCommandLine : Line → Command → Type 0
+IsCommandLine (Short line) command = IsFalse (says_nothing (words_in line)) × IsCommand (words_in line) command
+IsCommandLine TooLong command = ⊥
 
 -- a line is answered, and is no command
-pub record IsBadLine (line : List ℕ) : Type 0 where
-  pub read : IsFalse (is_skipped line)
-  pub bad : IsTrue (is_long line) ⊎ IsNoCommand (words_in line)
+abbrev pub IsBadLine : Line → Type 0
+IsBadLine (Short line) = IsFalse (says_nothing (words_in line)) × IsNoCommand (words_in line)
+IsBadLine TooLong = Unit {0}
 
--- what a line does in a world: its answer, if it gets one, and the next world
-pub data Does (w : World) (line : List ℕ) (answer : Option Answer) (next : World) : Type 0 where
-  skips : IsTrue (is_skipped line) → answer ≡ None → next ≡ w → Does w line answer next
-  refuses : IsBadLine line → answer ≡ Some (Refused BadLine) → next ≡ w → Does w line answer next
+-- What a line does in a world with these sectors unsettled: its answer, if it gets one, the next world, and what is unsettled then.
+pub data Does (w : World) (u : Unsettled) (line : Line) (answer : Option Answer) (next : World) (left : Unsettled) : Type 0 where
+  skips : IsTrue (is_skipped line) → answer ≡ None → next ≡ w → left ≡ u → Does w u line answer next left
+  refuses : IsBadLine line → answer ≡ Some (Refused BadLine) → next ≡ w → left ≡ u → Does w u line answer next left
   steps : (command : Command) (number : ℕ) → IsCommandLine line command
-      → answer ≡ Some (step_of w command number).0 → next ≡ (step_of w command number).1 → Does w line answer next
+      → answer ≡ Some (step_of w command number).0 → next ≡ (step_of w command number).1 → left ≡ unsettled_after u w command
+      → Does w u line answer next left
 
 -- A run from a world through lines, with the answers in their order, to a world. The numbers of `usage` answers are the run's.
-abbrev pub Runs : World → List (List ℕ) → List Answer → World → Type 0
-Runs w [] answers last = (answers ≡ []) × (last ≡ w)
-Runs w (line ∷ lines) answers last =
-    (answer : Option Answer) × (next : World) × (rest : List Answer)
-    × Does w line answer next × (answers ≡ option_to_list answer ++ rest) × Runs next lines rest last
+abbrev pub Runs : World → Unsettled → List Line → List Answer → World → Unsettled → Type 0
+Runs w u [] answers last left = (answers ≡ []) × (last ≡ w) × (left ≡ u)
+Runs w u (line ∷ lines) answers last left =
+    (answer : Option Answer) × (next : World) × (mid : Unsettled) × (rest : List Answer)
+    × Does w u line answer next mid × (answers ≡ option_to_list answer ++ rest) × Runs next mid lines rest last left
