@@ -15,7 +15,7 @@ use crate::record::{Changes, Piece};
 use vbm_ports::{Disk, Failed};
 
 /// How many bytes one call fills.
-const PIECE: usize = 4096;
+const PIECE: usize = 65536;
 
 /// Fills a range with a byte. Zeros past the end of the file are made by the last of them alone.
 fn fill<D: Disk>(disk: &mut D, name: &[u8], at: u64, len: u64, byte: u8) -> Result<(), Failed>
@@ -136,7 +136,7 @@ fn fill_pieces<D: Disk>(
     Ok(())
 }
 
-/// Writes a byte n times, at most 4096.
+/// Writes a byte n times, at most 65536.
 fn write_copies<D: Disk>(
     disk: &mut D,
     name: &[u8],
@@ -146,7 +146,7 @@ fn write_copies<D: Disk>(
 ) -> Result<(), Failed>
     requires store { IsStoreName name.now }
     requires some { 0 < n }
-    requires short { n ≤ 4096 }
+    requires short { n ≤ 65536 }
     requires room { at + n ≤ 2 ^ 60 }
     ensures ok { D.tells
         → OnOk result (IsWritten name.now at (replicate n byte) (D.state disk.old).files (D.state disk.new).files) }
