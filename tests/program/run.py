@@ -166,6 +166,15 @@ class Store:
         done = subprocess.run([self.cases.program, *line.split()], cwd=self.folder.name, stdin=subprocess.DEVNULL, stdout=subprocess.PIPE, stderr=subprocess.PIPE, timeout=60)
         self.holds(line, (done.returncode, done.stdout, done.stderr) == (status, out, b""), (done.returncode, done.stdout, done.stderr))
 
+    def runs(self, what, script, status, out, err=b"", **streams):
+        """A script whose lines come from a pipe, or from the stream that is given."""
+        if "stdin" not in streams:
+            streams["input"] = script
+        streams.setdefault("stdout", subprocess.PIPE)
+        done = subprocess.run([self.cases.program, "script"], cwd=self.folder.name, stderr=subprocess.PIPE, timeout=60, **streams)
+        got = (done.returncode, done.stdout or b"", done.stderr)
+        self.holds(what, got == (status, out, err), short(got))
+
     def holds(self, what, good, got=None):
         if good:
             self.cases.passed += 1
@@ -247,9 +256,57 @@ def refused_stores(cases):
     s.holds("it is redone", os.path.getsize(s.path("a.vdi")) == 10 and open(s.path("intent.vbm"), "rb").read(1) != b"\xa5")
 
 
+BAD = b"error 01 BadLine\n"
+
+
+def scripts(cases):
+    s = Store(cases, "scripts", [("library.vbm", library())])
+    s.runs("an empty script", b"", 0, b"")
+    s.runs("a script", b"# media\n\ncreatemedium a.vdi --size 1\n\tlist  hdds\r\nfrob\nlist hdds", 1, b"ok " + A_ID + b"\nok 1 a.vdi\n" + BAD + b"ok 1 a.vdi\n")
+    s.does("list hdds", 0, b"ok 1 a.vdi\n")
+    s.runs("forms of the program alone", b"init\nscript\npeek a.vdi 0\n", 1, 3 * BAD)
+    s.runs("the longest line", b"#" * 16384 + b"\n" + b"list hdds" + b" " * 16375, 0, b"ok 1 a.vdi\n")
+    s.runs("longer lines", b"#" * 16385 + b"\n" + b"list hdds" + b" " * 16376 + b"\nlist hdds\n", 1, 2 * BAD + b"ok 1 a.vdi\n")
+    s.runs("a line of 3 MiB", b"x" * (3 * MIB) + b"\nlist hdds\n", 1, BAD + b"ok 1 a.vdi\n")
+    s.runs("bytes that are no text", b"\xff\0\n", 1, BAD)
+    s.runs("ten thousand lines", 10000 * b"list hdds\n", 0, 10000 * b"ok 1 a.vdi\n")
+    folder = os.open(s.folder.name, os.O_RDONLY)
+    s.runs("a source that fails", b"", 4, b"", b"input fault\n", stdin=folder)
+    os.close(folder)
+    with open("/dev/full", "wb") as full:
+        s.runs("a full device", b"list hdds\n", 5, b"", b"output fault\n", stdout=full)
+    with open(s.path("lines"), "wb") as f:
+        f.write(b"createmedium b.vdi --size 1\nlist hdds\n")
+    with open(s.path("lines"), "rb") as lines:
+        s.runs("lines of a file", b"", 0, b"ok 00010203-0405-8600-8000-000000000001\nok 2 a.vdi b.vdi\n", stdin=lines)
+    refused = Store(cases, "a refused store", [("library.vbm", library() + b"x")])
+    refused.runs("no line is taken", b"list hdds\n", 7, b"store 3 BadLibrary 48\n")
+    with Answers(cases.program, s.folder.name) as answers:
+        s.holds("an answer before the next line comes", answers.of(b"list hdds\n") == b"ok 2 a.vdi b.vdi\n" and answers.of(b"frob\n") == BAD)
+
+
+class Answers:
+    """A script whose lines are written one by one, each when the one before is answered."""
+
+    def __init__(self, program, folder):
+        self.run = subprocess.Popen([program, "script"], cwd=folder, stdin=subprocess.PIPE, stdout=subprocess.PIPE, bufsize=0)
+
+    def __enter__(self):
+        return self
+
+    def __exit__(self, *_):
+        self.run.stdin.close()
+        self.run.stdout.close()
+        self.run.wait(timeout=60)
+
+    def of(self, line):
+        self.run.stdin.write(line)
+        return self.run.stdout.readline()
+
+
 def main():
     cases = Cases(os.path.abspath(sys.argv[1]))
-    for part in (sectors, refusals, words, folders, outputs, media, foreign_files, refused_stores):
+    for part in (sectors, refusals, words, folders, outputs, media, foreign_files, refused_stores, scripts):
         part(cases)
     print("program: %d passed, %d failed" % (cases.passed, cases.failed))
     return 1 if cases.failed else 0

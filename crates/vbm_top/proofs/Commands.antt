@@ -17,12 +17,15 @@ use Rattle.vbm_registry.specs.Stands.{Stands}
 use Rattle.vbm_registry.specs.declared.fault.BadStore.{BadStore}
 use Rattle.vbm_registry.proofs.Stores.{stands_once}
 use Rattle.vbm_engine.specs.declared.engine.Engine.{Engine}
+use Rattle.vbm_engine.specs.declared.engine.Opened.{Opened}
+use Rattle.vbm_engine.specs.declared.engine.Opened.TheVariants.{Open, Fault}
 use Rattle.vbm_engine.specs.Serves.{serves, IsSoundEngine, IsReady, StandsLoosely}
 use Rattle.vbm_engine.specs.Steps.{Advances, Stays, IsInStep}
-use Rattle.vbm_engine.specs.Opens.{StandsAlike, AreRedone}
+use Rattle.vbm_engine.specs.Opens.{StandsAlike, AreRedone, SyncsFirst}
+use Rattle.vbm_engine.proofs.Openings.{syncs_goes_on, opened_synced}
 use Rattle.vbm_engine.proofs.Readiness.{off_at_rest, ready_stands}
 use Rattle.vbm_engine.proofs.Turning.{before_step}
-use Rattle.vbm_top.specs.Run.{status_of, store_line, Writes, Says, CommandEnds, faulty, answered, unclosed, unanswered, broken, IsAnswered, IsUnclosed, IsClosed, Closes, IsInRun}
+use Rattle.vbm_top.specs.Run.{status_of, store_line, Writes, Says, CommandEnds, faulty, answered, unclosed, unanswered, broken, IsAnswered, IsUnclosed, IsClosed, Closes, IsInRun, IsOfCommand, SyncsOrFails}
 
 -- ---- what commands leave unsettled
 
@@ -37,7 +40,7 @@ settled_after : (w : World) (c : Command) → unsettled_after all_settled w c �
 settled_after w c = elim (cases_Bool (is_refused (step_of w c 0).0)) [ inl against ↦ rw against refl | inr for ↦ rw for (all_left c) ]
 
 -- no command of these has a number of its own
-same_step : (w : World) (c : Command) (n : ℕ) → step_of w c n ≡ step_of w c 0
+pub same_step : (w : World) (c : Command) (n : ℕ) → step_of w c n ≡ step_of w c 0
 same_step w (CreateMedium name size variant) n = refl
 same_step w (OpenMedium name) n = refl
 same_step w (CloseMedium name delete) n = refl
@@ -92,7 +95,8 @@ module _ (tells : Type 0) (files : Files) (e next : Engine) (c : Command) (a : A
   pub next_passes : tells → Passes d1 d2 (IsInStep (serves e d1.files) c all_settled)
       → ((u : Unsettled) → IsReady next d2 u → Passes d2 d3 (StandsLoosely (off (serves next d2.files)) u))
       → Passes d1 d3 (IsInStep (serves e d1.files) c all_settled)
-  next_passes t first second = Passes-trans d1 d2 d3 _ _ _ first (second all_settled (ready_after t)) (λ image is. is) (λ image is. inr (at_end image is))
+  next_passes t first second =
+      Passes-trans d1 d2 d3 _ _ _ first (second all_settled (ready_after t)) (λ image is. is) (λ image is. inr (at_end image is))
     where
       at_end : (image : Files) → StandsLoosely (off (serves next d2.files)) all_settled image
           → StandsLoosely (off (step_of (serves e d1.files) c 0).1) (unsettled_after all_settled (serves e d1.files) c) image
@@ -103,15 +107,15 @@ module _ (tells : Type 0) (files : Files) (e next : Engine) (c : Command) (a : A
 -- ---- no memory for a step
 
 module _ (tells : Type 0) (files : Files) (e same : Engine) (c : Command) (d1 d2 d3 : DiskState) (stays : tells → Stays d1 d2 e same) where
-  pub memory_ends : (told : Type 0) (status : ℕ) (was : List ℕ) → (tells → Stands files (Ok (serves e d1.files))) → Closes tells same d2 d3 6 status
-      → CommandEnds tells told c files d3 status was was
-  memory_ends told status was stood (inl kept) = unanswered kept.0 (λ t. refl) (λ t. inl (alike t (kept.1 t)))
+  pub memory_ends : (told : Type 0) (wanted status : ℕ) (was now : List ℕ) → (tells → Stands files (Ok (serves e d1.files))) → wanted ≡ 6
+      → (told → now ≡ was) → Closes tells same d2 d3 wanted status → CommandEnds tells told c files d3 status was now
+  memory_ends told wanted status was now stood six none (inl kept) = unanswered (kept.0 ∙ six) none (λ t. inl (alike t (kept.1 t)))
     where
       alike : tells → IsClosed same d2 d3 → StandsAlike files d3.files
       alike t closed held stands =
           subst (Stands d3.files) (stands_once files (Ok (serves e d1.files)) held (stood t) stands)
           (subst (λ w. Stands d3.files (Ok w)) (ap off (stays t).same ∙ off_at_rest e.library d1.files) closed.stands)
-  memory_ends told status was stood (inr fails) = broken fails.0 (λ t. refl)
+  memory_ends told wanted status was now stood six none (inr fails) = broken fails.0 none
 
   pub memory_passes : tells → ((u : Unsettled) → IsReady e d1 u) → Passes d1 d2 (IsInStep (serves e d1.files) c all_settled)
       → ((u : Unsettled) → IsReady same d2 u → Passes d2 d3 (StandsLoosely (off (serves same d2.files)) u))
@@ -123,10 +127,12 @@ module _ (tells : Type 0) (files : Files) (e same : Engine) (c : Command) (d1 d2
 -- ---- the whole run
 
 pub refused_ends : (tells told : Type 0) (c : Command) (files : Files) (new : DiskState) (bad : BadStore) (status : ℕ) (was now : List ℕ)
-    → (tells → Stands files (Err bad) × AreRedone files new.files) → Says told (store_line bad) 7 status was now → CommandEnds tells told c files new status was now
+    → (tells → Stands files (Err bad) × AreRedone files new.files) → Says told (store_line bad) 7 status was now
+    → CommandEnds tells told c files new status was now
 refused_ends tells told c files new bad status was now is (inl writes) = faulty bad is writes
 refused_ends tells told c files new bad status was now is (inr none) = unanswered none.0 none.1 (λ t. inr (inl (bad, (is t).0, (is t).1)))
 
+-- an image of the opening
 pub opened_image : (c : Command) (old : DiskState) (image : Files) → old.may_leave image ⊎ StandsAlike old.files image → IsInRun c old image
 opened_image c old image (inl before) = inl before
 opened_image c old image (inr alike) = inr (inl alike)
@@ -134,9 +140,19 @@ opened_image c old image (inr alike) = inr (inl alike)
 pub run_passes : (c : Command) (e : Engine) (old mid new : DiskState) → Stands old.files (Ok (serves e mid.files))
     → Passes old mid (λ image. old.may_leave image ⊎ StandsAlike old.files image) → Passes mid new (IsInStep (serves e mid.files) c all_settled)
     → Passes old new (IsInRun c old)
-run_passes c e old mid new stood first second = Passes-trans old mid new _ _ _ first second (opened_image c old) (λ image is. inr (inr (in_step image is)))
-  where
-    in_step : (image : Files) → IsInStep (serves e mid.files) c all_settled image → (w : World) → Stands old.files (Ok w) → IsInStep w c all_settled image
-    in_step image is w stands =
-        let both : Ok (serves e mid.files) ≡ Ok w = stands_once old.files (Ok (serves e mid.files)) (Ok w) stood stands in
-        let same : serves e mid.files ≡ w = cc in subst (λ v. IsInStep v c all_settled image) same is
+run_passes c e old mid new stood first second =
+    Passes-trans old mid new _ _ _ first second (opened_image c old) (λ image is. inr (inr (serves e mid.files, stood, is)))
+
+pub opening_syncs : (tells : Type 0) (c : Command) (old new : DiskState) (opened : Opened) (status : ℕ) → (opened ≡ Fault → status ≡ 3)
+    → SyncsFirst old new (StandsAlike old.files) ⊎ ((opened ≡ Fault) × OnlyReads tells old new)
+    → SyncsOrFails tells old new status (IsOfCommand c old.files)
+opening_syncs tells c old new opened status three (inl first) =
+    inl (record { later = first.later; since = λ image left. inl (first.since image left) })
+opening_syncs tells c old new opened status three (inr fails) = inr (inl (three fails.0), fails.1)
+
+pub run_syncs : (tells : Type 0) (c : Command) (e : Engine) (old mid new : DiskState) (status : ℕ) → Stands old.files (Ok (serves e mid.files))
+    → SyncsFirst old mid (StandsAlike old.files) ⊎ ((Open e ≡ Fault) × OnlyReads tells old mid)
+    → Passes mid new (IsInStep (serves e mid.files) c all_settled)
+    → SyncsOrFails tells old new status (IsOfCommand c old.files)
+run_syncs tells c e old mid new status stood synced second =
+    inl (syncs_goes_on old mid new _ _ _ (opened_synced e synced) second (λ image alike. inl alike) (λ image is. inr (serves e mid.files, stood, is)))

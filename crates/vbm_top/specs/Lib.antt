@@ -3,3 +3,5 @@ pub mod Run
 pub use Rattle.vbm_ports.specs.Files
 pub use Rattle.vbm_ports.specs.Disk
 pub use Rattle.vbm_ports.specs.Counts
+pub mod Script
+pub mod Turns

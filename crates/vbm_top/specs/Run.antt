@@ -2,7 +2,7 @@
 use Rattle.std.specs.Prelude.{◌≡◌, ℕ, ◌<◌, ◌^◌, ◌⊎◌, List, [], ◌∷◌, ◌++◌, length, All, Ok, Err, IsTrue, if◌then◌else◌, codes, decimal}
 use Rattle.vbm_ports.specs.Names.{is_medium_name}
 use Rattle.vbm_ports.specs.Files.{Files}
-use Rattle.vbm_ports.specs.Disk.{DiskState}
+use Rattle.vbm_ports.specs.Disk.{DiskState, OnlyReads}
 use Rattle.vbm_ports.specs.Counts.{Rose}
 use Rattle.vbm_ports.specs.Crash.{Only}
 use Rattle.vbm_ports.specs.Stream.{IsProperPrefix}
@@ -20,7 +20,7 @@ use Rattle.vbm_registry.specs.Stands.{Stands}
 use Rattle.vbm_engine.specs.declared.engine.Engine.{Engine}
 use Rattle.vbm_engine.specs.Serves.{serves, StandsLoosely}
 use Rattle.vbm_engine.specs.Steps.{IsInStep}
-use Rattle.vbm_engine.specs.Opens.{AreRedone, StandsAlike, IsMade, IsThere}
+use Rattle.vbm_engine.specs.Opens.{AreRedone, StandsAlike, SyncsFirst, IsMade, IsThere}
 
 -- ---- words
 
@@ -40,10 +40,15 @@ pub data IsInit (words : Words) (fresh seed : List ℕ) : Type 0 where
   drawn : words ≡ codes "init" ∷ [] → seed ≡ fresh → IsInit words fresh seed
   given : words ≡ codes "init" ∷ id_text seed ∷ [] → IsSeed seed → IsInit words fresh seed
 
+-- the word `script`
+abbrev pub IsScript : Words → Type 0
+IsScript words = words ≡ codes "script" ∷ []
+
 -- the words are no command of the program
 pub record IsNoForm (words : Words) : Type 0 where
   pub no_peek : (name : List ℕ) (lba : ℕ) → IsPeek words name lba → ⊥
   pub no_init : (fresh seed : List ℕ) → IsInit words fresh seed → ⊥
+  pub no_script : IsScript words → ⊥
   pub no_command : IsNoCommand words
 
 -- ---- lines and statuses
@@ -138,11 +143,21 @@ pub data CommandEnds (tells told : Type 0) (command : Command) (files : Files) (
   -- the disk failed before an answer
   broken : status ≡ 3 → (told → now ≡ was) → CommandEnds tells told command files new status was now
 
--- An image at some moment of a run of a command: one that a crash could have left before, one that stands for what the files
--- stood for, or one of the step.
+-- the files stood for a world that has P
+abbrev pub Stood : Files → (World → Type 0) → Type 0
+Stood files P = (world : World) × Stands files (Ok world) × P world
+
+-- An image of a run of a command: it stands for what the files stood for, or is of the step.
+abbrev pub IsOfCommand : Command → Files → Files → Type 0
+IsOfCommand command files image = StandsAlike files image ⊎ Stood files (λ world. IsInStep world command all_settled image)
+
+-- An image at some moment of a run of a command: until the first sync also one that a crash could have left before.
 abbrev pub IsInRun : Command → DiskState → Files → Type 0
-IsInRun command old image =
-    old.may_leave image ⊎ (StandsAlike old.files image ⊎ ((w : World) → Stands old.files (Ok w) → IsInStep w command all_settled image))
+IsInRun command old image = old.may_leave image ⊎ IsOfCommand command old.files image
+
+-- From its first sync on each image has P; or the disk failed or there was no memory before that, and the disk was only read.
+abbrev pub SyncsOrFails : Type 0 → DiskState → DiskState → ℕ → (Files → Type 0) → Type 0
+SyncsOrFails tells old new status P = SyncsFirst old new P ⊎ (((status ≡ 3) ⊎ (status ≡ 6)) × OnlyReads tells old new)
 
 -- ---- closing
 

@@ -6,6 +6,8 @@ mod making;
 mod peeking;
 mod running;
 mod saying;
+mod scripting;
+mod serving;
 pub mod status;
 mod words;
 

@@ -3,9 +3,8 @@
 ghost use Rattle.std.specs.Prelude.{◌≡◌, ◌≢◌, ◌⊎◌, ◌≤◌};
 ghost use Rattle.vbm_ports.specs.Counts.{Rose};
 ghost use Rattle.vbm_ports.specs.Disk.{Passes};
-ghost use Rattle.vbm_intent.specs.Log.{IsLikeRedone};
-ghost use Rattle.vbm_engine.specs.Opens.{StandsNew};
-ghost use Rattle.vbm_top.specs.Run.{InitEnds};
+ghost use Rattle.vbm_engine.specs.Opens.{IsMaking};
+ghost use Rattle.vbm_top.specs.Run.{InitEnds, SyncsOrFails};
 
 use crate::saying::{write_answer, write_line, write_store};
 use crate::status::{DISK_FAULT, NO_MEMORY, STORE_REFUSED};
@@ -19,8 +18,9 @@ use vbm_world::Answer;
 pub(crate) fn do_init<D: Disk, K: Sink>(alloc: Global, disk: &mut D, sink: &mut K, seed: Uuid) -> u8
     ensures ends { InitEnds D.tells K.tells seed (D.state disk.old) (D.state disk.new) result (K.written sink.old) (K.written sink.new) }
     ensures any_moment { D.tells → Passes (D.state disk.old) (D.state disk.new)
-        (λ image. (D.state disk.old).may_leave image ⊎ IsLikeRedone (D.state disk.old).files image
-        ⊎ StandsNew seed (D.state disk.old).files image) }
+        (λ image. (D.state disk.old).may_leave image ⊎ IsMaking seed (D.state disk.old).files image) }
+    ensures synced { D.tells
+        → SyncsOrFails D.tells (D.state disk.old) (D.state disk.new) result (IsMaking seed (D.state disk.old).files) }
     ensures faults { (D.state disk.old).faults ≤ (D.state disk.new).faults }
     ensures disk_fault { result ≡ 3 → Rose (D.state disk.old).faults (D.state disk.new).faults }
     ensures output_fault { result ≡ 5 → Rose (K.faults sink.old) (K.faults sink.new) }

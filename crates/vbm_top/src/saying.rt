@@ -1,6 +1,6 @@
 //! Lines that go out, and their statuses.
 
-ghost use Rattle.std.specs.Prelude.{◌≡◌, ◌≢◌, ◌⊎◌, ◌++◌, IfOk, codes, string_bytes};
+ghost use Rattle.std.specs.Prelude.{◌≡◌, ◌≢◌, ◌⊎◌, ◌≤◌, ◌++◌, IfOk, codes, string_bytes};
 ghost use Rattle.vbm_ports.specs.Counts.{Rose};
 ghost use Rattle.vbm_world.specs.Texts.{line_of};
 ghost use Rattle.vbm_top.specs.Run.{store_text, store_line, status_of, Writes, Says};
@@ -16,6 +16,7 @@ use vbm_world::Answer;
 pub(crate) fn write_line<K: Sink>(sink: &mut K, line: &[u8], status: u8) -> u8
     ensures writes { Writes K.tells line.now status result (K.written sink.old) (K.written sink.new) }
     ensures either { (result ≡ status) ⊎ ((result ≡ 5) × Rose (K.faults sink.old) (K.faults sink.new)) }
+    ensures faults { K.faults sink.old ≤ K.faults sink.new }
 {
     match put_all(sink, line) {
         Ok(()) => status,
@@ -46,6 +47,7 @@ fn line_of(alloc: Global, text: &[u8]) -> Result<Vec<u8>, AllocError>
 fn write_text<K: Sink>(alloc: Global, sink: &mut K, text: &[u8], status: u8) -> u8
     ensures says { Says K.tells (text.now ++ codes "\n") status result (K.written sink.old) (K.written sink.new) }
     ensures either { (result ≡ status) ⊎ ((result ≡ 6) ⊎ ((result ≡ 5) × Rose (K.faults sink.old) (K.faults sink.new))) }
+    ensures faults { K.faults sink.old ≤ K.faults sink.new }
 {
     match line_of(alloc, text) {
         Ok(line) => write_line(sink, line.as_slice(), status),
@@ -58,6 +60,7 @@ pub(crate) fn write_answer<K: Sink>(alloc: Global, sink: &mut K, answer: &Answer
     ensures says { Says K.tells (line_of answer.now) (status_of answer.now) result (K.written sink.old) (K.written sink.new) }
     ensures output { result ≡ 5 → Rose (K.faults sink.old) (K.faults sink.new) }
     ensures others { (result ≢ 2) × (result ≢ 3) }
+    ensures faults { K.faults sink.old ≤ K.faults sink.new }
 {
     match answer_text(alloc, answer) {
         Ok(text) => write_text(alloc, sink, text.bytes(), status_of(answer)),

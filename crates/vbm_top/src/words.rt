@@ -2,7 +2,7 @@
 
 ghost use Rattle.std.specs.Prelude.{◌≡◌, ℕ, List, MatchOption, IsTrue, ◌↔◌};
 ghost use Rattle.vbm_world.specs.Texts.{id_text};
-ghost use Rattle.vbm_top.specs.Run.{IsPeek, IsSeed, IsInit};
+ghost use Rattle.vbm_top.specs.Run.{IsPeek, IsSeed, IsInit, IsScript};
 
 use uuid::Uuid;
 use vbm_lines::decimal;
@@ -69,5 +69,15 @@ pub(crate) fn init_words(words: &[Text], fresh: Uuid) -> Option<Uuid>
         [verb] if is_text(verb.bytes(), b"init") => Some(fresh),
         [verb, seed] if is_text(verb.bytes(), b"init") => identifier(seed.bytes()),
         _ => None,
+    }
+}
+
+/// Whether the words are `script`.
+pub(crate) fn is_script(words: &[Text]) -> bool
+    ensures { IsTrue result ↔ IsScript words.now }
+{
+    match words {
+        [verb] => is_text(verb.bytes(), b"script"),
+        _ => false,
     }
 }

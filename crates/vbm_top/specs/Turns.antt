@@ -1,0 +1,107 @@
+-- One line of a run over an open store.
+use Rattle.std.specs.Prelude.{◌≡◌, ◌⊎◌, ℕ, List, [], ◌∷◌, ◌++◌, Option, Some, None, IsTrue}
+use Rattle.vbm_ports.specs.Files.{Files}
+use Rattle.vbm_ports.specs.Disk.{DiskState}
+use Rattle.vbm_world.specs.declared.command.Command.{Command}
+use Rattle.vbm_world.specs.declared.command.Answer.{Answer}
+use Rattle.vbm_world.specs.World.{World, off}
+use Rattle.vbm_world.specs.Texts.{IsSpelled, line_of}
+use Rattle.vbm_world.specs.Lines.{Line, is_skipped}
+use Rattle.vbm_world.specs.Loose.{Unsettled}
+use Rattle.vbm_world.specs.Runs.{IsCommandLine, IsBadLine, Does}
+use Rattle.vbm_lines.specs.Inputs.{AreRead, IsAllRead, IsCutOff, IsTooLong}
+use Rattle.vbm_lines.specs.Reader.{Reader, IsAt}
+use Rattle.vbm_engine.specs.declared.engine.Engine.{Engine}
+use Rattle.vbm_engine.specs.Serves.{serves, IsSoundEngine, IsReady, StandsLoosely}
+use Rattle.vbm_engine.specs.Steps.{Advances, Stays, IsInStep}
+use Rattle.vbm_top.specs.declared.scripting.Asked.{Asked}
+use Rattle.vbm_top.specs.declared.scripting.Asked.TheVariants as asked
+use Rattle.vbm_top.specs.declared.serving.Request.{Request}
+use Rattle.vbm_top.specs.declared.serving.Request.TheVariants.{Skip, Bad, Do}
+use Rattle.vbm_top.specs.declared.serving.Turned.{Turned}
+use Rattle.vbm_top.specs.declared.serving.Turned.TheVariants.{Open, Broken}
+use Rattle.vbm_top.specs.Run.{status_of, Says}
+
+-- what a line asks for
+abbrev pub IsRequest : Line → Request → Type 0
+IsRequest line Skip = IsTrue (is_skipped line)
+IsRequest line Bad = IsBadLine line
+IsRequest line (Do command) = IsCommandLine line command
+
+-- what holds of a request by itself
+abbrev pub IsSpelledRequest : Request → Type 0
+IsSpelledRequest Skip = Unit {0}
+IsSpelledRequest Bad = Unit {0}
+IsSpelledRequest (Do command) = IsSpelled command
+
+-- the engine that goes on is sound
+abbrev pub IsSoundTurn : Turned → Type 0
+IsSoundTurn (Open next status) = IsSoundEngine next
+IsSoundTurn Broken = Unit {0}
+
+abbrev pub OnBroken : Turned → Type 0 → Type 0
+OnBroken (Open next status) P = Unit {0}
+OnBroken Broken P = P
+
+-- the sink failed
+abbrev pub OnOutputFault : Turned → Type 0 → Type 0
+OnOutputFault (Open next status) P = status ≡ 5 → P
+OnOutputFault Broken P = Unit {0}
+
+-- ---- the lines that are read
+
+abbrev pub OnRequest : (Request → Type 0) → Asked → Type 0
+OnRequest P (asked.Line request) = P request
+OnRequest P asked.End = Unit {0}
+OnRequest P asked.Fault = Unit {0}
+OnRequest P asked.TooLong = Unit {0}
+OnRequest P asked.NoMemory = Unit {0}
+
+-- What comes behind lines of an input that were read: the next line, or why there is none.
+abbrev pub Asks : Reader → List ℕ → List ℕ → List Line → Line → Asked → Type 0
+Asks new input rest lines line (asked.Line request) = IsAt new input rest (lines ++ line ∷ [])
+Asks new input rest lines line asked.End = IsAllRead new.most input rest lines
+Asks new input rest lines line asked.Fault = IsCutOff new.most input rest lines
+Asks new input rest lines line asked.TooLong = IsTooLong new.most input rest lines
+Asks new input rest lines line asked.NoMemory = AreRead input rest lines
+
+-- the source failed
+abbrev pub OnInputFault : Asked → Type 0 → Type 0
+OnInputFault (asked.Line request) P = Unit {0}
+OnInputFault asked.End P = Unit {0}
+OnInputFault asked.Fault P = P
+OnInputFault asked.TooLong P = Unit {0}
+OnInputFault asked.NoMemory P = Unit {0}
+
+-- ---- a command
+
+-- The command was done and its line written with its status, unless the sink failed or there was no memory; or nothing was done
+-- for want of memory; or the disk failed.
+abbrev pub TurnsCommand : Type 0 → Type 0 → DiskState → DiskState → Engine → Command → Turned → List ℕ → List ℕ → Type 0
+TurnsCommand tells told old new e c (Open next status) was now =
+    ((answer : Answer) × Says told (line_of answer) (status_of answer) status was now × (tells → Advances old new e next c answer))
+    ⊎ ((status ≡ 6) × (told → now ≡ was) × (tells → Stays old new e next))
+TurnsCommand tells told old new e c Broken was now = told → now ≡ was
+
+-- ---- a line
+
+-- the line of an answer was written with its status; a skipped line has none
+abbrev pub SaysAnswer : Type 0 → Option Answer → ℕ → List ℕ → List ℕ → Type 0
+SaysAnswer told None status was now = (status ≡ 0) × (told → now ≡ was)
+SaysAnswer told (Some answer) status was now = Says told (line_of answer) (status_of answer) status was now
+
+-- The engine `next` serves the world after the line, which has this answer.
+pub record IsPast (old new : DiskState) (e next : Engine) (line : Line) (answer : Option Answer) : Type 0 where
+  pub does : (u : Unsettled) → IsReady e old u
+      → (left : Unsettled) × Does (serves e old.files) u line answer (serves next new.files) left × IsReady next new left
+
+abbrev pub TurnsLine : Type 0 → Type 0 → DiskState → DiskState → Engine → Line → Turned → List ℕ → List ℕ → Type 0
+TurnsLine tells told old new e line (Open next status) was now =
+    ((answer : Option Answer) × SaysAnswer told answer status was now × (tells → IsPast old new e next line answer))
+    ⊎ ((status ≡ 6) × (told → now ≡ was) × (tells → Stays old new e next))
+TurnsLine tells told old new e line Broken was now = (command : Command) × IsCommandLine line command × (told → now ≡ was)
+
+-- an image at some moment of a line: of the world before it, or of its command's step
+abbrev pub IsAtLine : World → Line → Unsettled → Files → Type 0
+IsAtLine w line u image =
+    StandsLoosely (off w) u image ⊎ ((command : Command) × IsCommandLine line command × IsInStep w command u image)
