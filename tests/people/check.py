@@ -1,0 +1,279 @@
+#!/usr/bin/env python3
+"""The manual, the completions and the examples of the documents, held against the grammar: check.py.
+
+What commands, refusals and statuses there are is read from their definitions, so that nothing of this can lag behind them.
+"""
+
+import itertools
+import os
+import re
+import shlex
+import shutil
+import subprocess
+import sys
+import tempfile
+
+ROOT = os.path.dirname(os.path.dirname(os.path.dirname(os.path.abspath(__file__))))
+WORD = "_"
+
+
+def text(*path):
+    with open(os.path.join(ROOT, *path), encoding="utf-8") as f:
+        return f.read()
+
+
+class Cases:
+    def __init__(self):
+        self.passed = 0
+        self.failed = 0
+
+    def same(self, name, wanted, got):
+        """Whether two sets are the same."""
+        if wanted == got:
+            self.passed += 1
+            return
+        self.failed += 1
+        for what, items in (("lacks", wanted - got), ("has too much", got - wanted)):
+            for item in sorted(items):
+                print("people: %s %s: %s" % (name, what, " ".join(item) if isinstance(item, tuple) else item))
+
+    def holds(self, name, good, got=""):
+        self.passed += bool(good)
+        self.failed += not good
+        if not good:
+            print("people: %s: %s" % (name, got))
+
+
+# ---- the definitions
+
+
+class Definitions:
+    """The equations of a file of definitions: for each name, its patterns and its body."""
+
+    def __init__(self, *path):
+        self.types, self.equations = {}, {}
+        lines = re.sub(r"\n +", " ", re.sub(r"(?m)^ *--.*\n", "", text(*path))).split("\n")
+        for line in lines:
+            named = re.match(r"(?:abbrev|unfoldable) pub (\w+) : (.*)", line)
+            if named:
+                self.types[named.group(1)] = named.group(2)
+            equation = re.match(r"(\w+)((?: \([^()]*\)| \w+)*) = (.*)", line)
+            if equation:
+                patterns = [p.strip("()").split() for p in re.findall(r"\([^()]*\)|\w+", equation.group(2))]
+                self.equations.setdefault(equation.group(1), []).append((patterns, equation.group(3)))
+
+    def forms(self, body, only=()):
+        """The lists of words that an expression gives; `only` has (variable, constructor) pairs that hold."""
+        alternatives = [()]
+        for part in re.split(r" ∷ | \+\+ ", body):
+            part = part.strip()
+            words = part.strip("()").split()
+            if part == "[]":
+                continue
+            if words[0] == "codes":
+                choices = [(w,) for w in re.findall(r'"([^"]*)"', part)]
+            elif self.types.get(words[0], "").endswith("→ Words"):
+                wanted = [c for v, c in only if v in words[1:]]
+                choices = [f for patterns, b in self.equations[words[0]] if not wanted or patterns[0][0] in wanted for f in self.forms(b)]
+            else:
+                choices = [(WORD,)]
+            alternatives = [a + c for a in alternatives for c in choices]
+        return alternatives
+
+
+def command_forms(definitions):
+    """The forms of the machine's commands, as far as they can be spelled."""
+    spelled = {patterns[0][0]: re.findall(r"\((\w+) ≡ (\w+)\)", body) for patterns, body in definitions.equations["IsSpelled"]}
+    return {form for patterns, body in definitions.equations["words_of"] for form in definitions.forms(body, spelled[patterns[0][0]])}
+
+
+def program_forms(definitions):
+    """The forms that are words of the program alone."""
+    return {form for body in re.findall(r"words ≡ (codes [^→\n]*?∷ \[\])", text("crates", "vbm_top", "specs", "Run.antt")) for form in definitions.forms(body)}
+
+
+def imported(name, *path):
+    """The constructors of a type that a file of definitions uses."""
+    found = re.search(r"\.%s\.TheVariants\.\{([^}]*)\}" % name, text(*path))
+    return {c.split(" as ")[0].strip() for c in found.group(1).split(",")} if found else set()
+
+
+def first_word(body):
+    return re.search(r'codes "([^"]*)"', body).group(1).strip()
+
+
+def refusals(definitions):
+    """The texts of the refusals that some definition gives."""
+    files = [("vbm_world", f) for f in os.listdir(os.path.join(ROOT, "crates", "vbm_world", "specs")) if f not in ("Texts.antt", "Lib.antt") and f.endswith(".antt")]
+    used = set().union(*(imported("Refusal", "crates", crate, "specs", file) for crate, file in [*files, ("vbm_top", "Peek.antt")]))
+    return {first_word(body) for patterns, body in definitions.equations["refusal_text"] if patterns[0][0] in used}
+
+
+def stores():
+    """The texts of the refused stores."""
+    used = imported("BadStore", "crates", "vbm_registry", "specs", "Stands.antt")
+    definitions = Definitions("crates", "vbm_top", "specs", "Run.antt")
+    there = first_word(definitions.equations["there_line"][0][1]).removesuffix("\\n")
+    return {there} | {first_word(body) for patterns, body in definitions.equations["store_text"] if patterns[0][0] in used}
+
+
+def conditions():
+    """The numbers and names of the conditions on images."""
+    body = re.search(r"enum BadImage \{(.*?)\n\}", text("crates", "vbm_header", "src", "lib.rt"), re.S).group(1)
+    return {"%d %s" % (k + 1, name) for k, name in enumerate(re.findall(r"^    (\w+)", body, re.M))}
+
+
+def statuses():
+    """The numbers of the statuses, each with what standard error says."""
+    numbers = dict(re.findall(r"pub const (\w+): u8 = (\d+);", text("crates", "vbm_top", "src", "status.rt")))
+    said = dict(re.findall(r'status::(\w+) => Some\("([^"]*)"\)', text("crates", "vbm", "src", "main.rt")))
+    return {"%s %s" % (n, said[name]) if name in said else n for name, n in numbers.items()}
+
+
+# ---- the manual
+
+
+class Manual:
+    def __init__(self):
+        parts = re.split(r"(?m)^\.Sh (.*)\n", text("doc", "vbm.1"))
+        self.sections = dict(zip(parts[1::2], parts[2::2]))
+
+    def forms(self):
+        forms = set()
+        for form in re.split(r"(?m)^\.Nm\n", self.sections["SYNOPSIS"])[1:]:
+            choices = []
+            for line in form.strip().split("\n"):
+                words = line.lstrip(".").split()
+                plain = words[words[0] == "Op":]
+                spelled = tuple({"Ar": WORD, "Fl": "-" + w, "Cm": w}[m] for m, w in zip(plain[::2], plain[1::2]))
+                choices.append([spelled, ()] if words[0] == "Op" else [spelled])
+            forms |= {sum(choice, ()) for choice in itertools.product(*choices)}
+        return forms
+
+    def items(self, section):
+        """What the items of a list are, without their arguments."""
+        return {re.sub(r" Ar .*", "", i) for i in re.findall(r"(?m)^\.It (?:Sy|Cm) (.*)$", self.sections[section])}
+
+    def statuses(self):
+        items = re.split(r"(?m)^\.It Sy (\d+)\n", self.sections["EXIT STATUS"])
+        said = ((n, re.search(r"(?m)^\.Ql (.*?)(?: \.)?$", body)) for n, body in zip(items[1::2], items[2::2]))
+        return {"%s %s" % (n, found.group(1)) if found else n for n, found in said}
+
+
+def manual(cases, forms, definitions):
+    page = Manual()
+    cases.same("the manual's synopsis", forms, page.forms())
+    cases.same("the manual's commands", {f[0] for f in forms}, {i.split()[0] for i in page.items("COMMANDS")})
+    cases.same("the manual's refusals", refusals(definitions), {" ".join(i.split()[:3]) for i in page.items("REFUSALS")})
+    cases.same("the manual's stores", stores(), page.items("REFUSED STORES"))
+    cases.same("the manual's conditions on images", conditions(), page.items("REFUSED IMAGES"))
+    cases.same("the manual's statuses", statuses(), page.statuses())
+    if shutil.which("mandoc"):
+        done = subprocess.run(["mandoc", "-T", "lint", "-W", "warning", "doc/vbm.1"], cwd=ROOT, stdout=subprocess.PIPE, stderr=subprocess.STDOUT)
+        cases.holds("mandoc", done.returncode == 0, done.stdout.decode())
+
+
+# ---- the completions
+
+FILES = ["some.vdi", "x.vdi"]
+OTHERS = ["notes.txt", "a b.vdi", "{00010203-0405-0607-0809-0a0b0c0d0e0f}.vdi", ".vdi", "-a.vdi", "A.VDI"]
+
+# For each line of words, the candidates for the next one. The last word of a line is the one that is completed.
+BASH = r"""
+. "$1/completions/vbm.bash"
+while IFS= read -r line; do
+  read -ra words <<<"${line%.}"
+  case $line in . | *' .') words+=('') ;; esac
+  COMP_WORDS=(vbm "${words[@]}") COMP_CWORD=${#words[@]}
+  _vbm
+  printf '%s\n' "${COMPREPLY[*]}"
+done
+"""
+ZSH = r"""
+setopt extendedglob
+compadd() { shift; added=("$@") }
+complete_vbm() { . "$1/completions/_vbm" }
+while IFS= read -r query; do
+  added=() words=(vbm ${=query%.} '')
+  CURRENT=$#words
+  complete_vbm "$1"
+  print -r -- $added
+done
+"""
+
+
+def table(*path):
+    return [tuple(line.split()) for line in re.search(r"vbm_forms='\n(.*?)\n'", text(*path), re.S).group(1).split("\n")]
+
+
+def candidates(rows, typed):
+    """What can come behind these words, by a table of forms."""
+    found = set()
+    for row in rows:
+        if len(row) > len(typed) and all(r == t or r.isupper() for r, t in zip(row, typed)):
+            word = row[len(typed)]
+            is_file = word in ("NAME", "FILE") or word == "NEW" and row[0] != "createmedium"
+            found |= {word} if not word.isupper() else set(FILES) if is_file else set()
+    return found
+
+
+def asked(shell, script, queries):
+    """What a shell gives for each query."""
+    with tempfile.TemporaryDirectory() as folder:
+        for file in FILES + OTHERS:
+            open(os.path.join(folder, file), "w").close()
+        os.mkdir(os.path.join(folder, "folder.vdi"))
+        os.symlink("some.vdi", os.path.join(folder, "link.vdi"))
+        done = subprocess.run([*shell, "-c", script, shell[0], ROOT], cwd=folder, input="".join(q + ".\n" for q in queries).encode(), stdout=subprocess.PIPE, timeout=60)
+    return [set(line.split()) for line in done.stdout.decode().split("\n")[:-1]]
+
+
+def completions(cases, forms):
+    for name, path in (("bash", "vbm.bash"), ("zsh", "_vbm")):
+        rows = table("completions", path)
+        cases.same("the forms of " + path, forms, {tuple(WORD if w.isupper() else w for w in row) for row in rows})
+        if not shutil.which(name):
+            print("skipped: running completions/%s (tests/people), since there is no %s" % (path, name))
+            continue
+        typed = sorted({tuple("z.vdi" if w.isupper() else w for w in row[:n]) for row in rows for n in range(len(row) + 1)} | {("frob",), ("list", "x")})
+        got = asked([name, "--norc"] if name == "bash" else [name, "-f"], BASH if name == "bash" else ZSH, ["".join(w + " " for w in words) for words in typed])
+        cases.holds("the answers of " + path, len(got) == len(typed), got)
+        for words, found in zip(typed, got):
+            cases.same("%s behind `vbm %s`" % (path, " ".join(words)), candidates(rows, words), found)
+    begun = {"creat": {"createmedium"}, "createmedium z.vdi --size": {"--size", "--sizebyte"}, "createmedium z.vdi --sizeb": {"--sizebyte"},
+             "closemedium so": {"some.vdi"}, "closemedium some.vdi": {"some.vdi"}, "peek y": set(), "createmedium so": set()}
+    for (words, wanted), found in zip(begun.items(), asked(["bash", "--norc"], BASH, begun)):
+        cases.same("vbm.bash at `vbm %s`" % words, wanted, found)
+
+
+# ---- examples of commands in documents
+
+
+def examples(cases, forms):
+    """Each line of code that runs the program has a form."""
+    page = text("doc", "vbm.1")
+    lines = [("doc/vbm.1", line) for line in re.findall(r"(?m)^(?:\$ )?(vbm [a-z].*)$", page)]
+    for file in ("README.md", os.path.join("docs", "FROM_VIRTUALBOX.md")):
+        if os.path.exists(os.path.join(ROOT, file)):
+            found = text(file)
+            lines += [(file, line) for line in re.findall(r"(?m)^(?:\$ )?(vbm [a-z].*)$", found) + re.findall(r"`(vbm [a-z][^`]*)`", found)]
+    for file, line in lines:
+        words = shlex.split(re.split(r"[<|>]| && |  ", line)[0])[1:]
+        good = any(len(f) == len(words) and all(a == WORD or a == w for a, w in zip(f, words)) for f in forms)
+        cases.holds("%s: no form" % file, good, line)
+
+
+def main():
+    cases = Cases()
+    definitions = Definitions("crates", "vbm_world", "specs", "Texts.antt")
+    forms = command_forms(definitions) | program_forms(definitions)
+    cases.holds("the grammar is read", len(forms) > 8, forms)
+    manual(cases, forms, definitions)
+    completions(cases, forms)
+    examples(cases, forms)
+    print("people: %d passed, %d failed" % (cases.passed, cases.failed))
+    return 1 if cases.failed else 0
+
+
+if __name__ == "__main__":
+    sys.exit(main())
