@@ -1,4 +1,5 @@
 pub mod Appends
+pub mod Counting
 pub mod NameLemmas
 pub mod Puts
 pub mod States

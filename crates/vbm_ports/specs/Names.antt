@@ -1,4 +1,4 @@
--- The names of the files in a store.
+-- The names of the files, the machines and the snapshots in a store.
 use Rattle.std.specs.Prelude.{ℕ, ◌==◌, ◌&&◌, ◌||◌, not, nat_le, Bool, List, length, slice_index, drop, take, codes, nat_eq, IsTrue}
 use Rattle.std.specs.List.{list_all, starts_with, ends_with}
 use Rattle.std.specs.Str.{bytes_eq}
@@ -15,6 +15,11 @@ unfoldable pub is_medium_name : List ℕ → Bool
 is_medium_name name =
     nat_le 5 (length name) && nat_le (length name) 64 && not (slice_index name 0 == 45) && list_all is_name_character name
     && ends_with nat_eq name (codes ".vdi")
+
+-- The name of a machine or a snapshot: 1 to 32 characters that do not begin with `-`.
+unfoldable pub is_short_name : List ℕ → Bool
+is_short_name name =
+    nat_le 1 (length name) && nat_le (length name) 32 && not (slice_index name 0 == 45) && list_all is_name_character name
 
 abbrev pub is_lower_hex : ℕ → Bool
 is_lower_hex c = is_between 48 57 c || is_between 97 102 c

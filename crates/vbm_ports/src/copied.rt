@@ -27,3 +27,18 @@ impl<T: Copied + Drop> Copied for Sequence<T> {
         Ok(copy)
     }
 }
+
+impl<T: Copied + Drop> Copied for Option<T> {
+    fn copied(&self, alloc: Global) -> Result<Option<T>, NoMemory> {
+        match self {
+            Some(item) => Ok(Some(item.copied(alloc)?)),
+            None => Ok(None),
+        }
+    }
+}
+
+impl<const N: usize> Copied for [u8; N] {
+    fn copied(&self, _alloc: Global) -> Result<[u8; N], NoMemory> {
+        Ok(*self)
+    }
+}

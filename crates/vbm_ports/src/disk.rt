@@ -28,7 +28,8 @@ pub trait Disk {
         ensures bound { IfOk result (λ len. IfSome len (λ n. n ≤ 2 ^ 60)) }
         ensures reads { OnlyReads tells (state self.old) (state self.new) }
         ensures calls { (state self.new).calls ≡ counted (state self.old).calls }
-        ensures cause { OnErr result (Rose (state self.old).faults (state self.new).faults) };
+        ensures cause { OnErr result (Rose (state self.old).faults (state self.new).faults) }
+        ensures no_fault { IfOk result (λ _. (state self.new).faults ≡ (state self.old).faults) };
 
     /// Reads as many bytes as lie at `at` and fit `out`; none where there is no such file. The rest of `out` stays.
     fn read(&mut self, name: &[u8], at: u64, out: &mut [u8]) -> Result<usize, Failed>
@@ -38,7 +39,8 @@ pub trait Disk {
         ensures bound { IfOk result (λ n. n ≤ length out.old) }
         ensures reads { OnlyReads tells (state self.old) (state self.new) }
         ensures calls { (state self.new).calls ≡ counted (state self.old).calls }
-        ensures cause { OnErr result (Rose (state self.old).faults (state self.new).faults) };
+        ensures cause { OnErr result (Rose (state self.old).faults (state self.new).faults) }
+        ensures no_fault { IfOk result (λ _. (state self.new).faults ≡ (state self.old).faults) };
 
     /// Puts bytes at a place, at least one, and makes the file if it is absent. A gap before them reads as zeros. A write that
     /// fails may have changed any byte of its range.
@@ -54,7 +56,8 @@ pub trait Disk {
             → Follows (WriteLeaves name.now at (length bytes.now) (state self.old).files) (state self.old).may_leave (state self.new).may_leave }
         ensures time { Passes (state self.old) (state self.new) (state self.new).may_leave }
         ensures counts { CountsCall (state self.old) (state self.new) }
-        ensures cause { OnErr result (Rose (state self.old).faults (state self.new).faults) };
+        ensures cause { OnErr result (Rose (state self.old).faults (state self.new).faults) }
+        ensures no_fault { OnOk result ((state self.new).faults ≡ (state self.old).faults) };
 
     /// Cuts a longer file to a length; a shorter or absent one stays. A cut that fails may have happened.
     fn cut(&mut self, name: &[u8], len: u64) -> Result<(), Failed>
@@ -67,7 +70,8 @@ pub trait Disk {
             → Follows (CutLeaves name.now len (state self.old).files) (state self.old).may_leave (state self.new).may_leave }
         ensures time { Passes (state self.old) (state self.new) (state self.new).may_leave }
         ensures counts { CountsCall (state self.old) (state self.new) }
-        ensures cause { OnErr result (Rose (state self.old).faults (state self.new).faults) };
+        ensures cause { OnErr result (Rose (state self.old).faults (state self.new).faults) }
+        ensures no_fault { OnOk result ((state self.new).faults ≡ (state self.old).faults) };
 
     /// Removes a file; an absent one stays absent. A removal that fails may have happened.
     fn remove(&mut self, name: &[u8]) -> Result<(), Failed>
@@ -80,7 +84,8 @@ pub trait Disk {
             → Follows (RemoveLeaves name.now) (state self.old).may_leave (state self.new).may_leave }
         ensures time { Passes (state self.old) (state self.new) (state self.new).may_leave }
         ensures counts { CountsCall (state self.old) (state self.new) }
-        ensures cause { OnErr result (Rose (state self.old).faults (state self.new).faults) };
+        ensures cause { OnErr result (Rose (state self.old).faults (state self.new).faults) }
+        ensures no_fault { OnOk result ((state self.new).faults ≡ (state self.old).faults) };
 
     /// Settles all files and the folder: a crash then leaves what reads give, from the next moment on. A sync that fails settles
     /// nothing.
@@ -89,7 +94,8 @@ pub trait Disk {
         ensures next { tells → OnOk result ((state self.new).moment ≡ (state self.old).moment + 1) }
         ensures reads { OnlyReads tells (state self.old) (state self.new) }
         ensures calls { (state self.new).calls ≡ counted (state self.old).calls }
-        ensures cause { OnErr result (Rose (state self.old).faults (state self.new).faults) };
+        ensures cause { OnErr result (Rose (state self.old).faults (state self.new).faults) }
+        ensures no_fault { OnOk result ((state self.new).faults ≡ (state self.old).faults) };
 
     ghost coherent: { (disk : Self) → IsCoherent tells (state disk) };
 }

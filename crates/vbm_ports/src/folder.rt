@@ -1,10 +1,11 @@
 //! A folder of the system as a disk. Each call opens the file that it needs, and closes it.
 
-ghost use Rattle.std.specs.Prelude.{◌≡◌, ◌+◌, ◌^◌, ◌≤◌, None, IfOk, IfSome, OnErr, IsErr, length, vec_len};
+ghost use Rattle.std.specs.Prelude.{◌≡◌, ◌+◌, ◌^◌, ◌≤◌, None, IfOk, IfSome, OnErr, OnOk, IsErr, IsOk, length, vec_len};
 ghost use Rattle.vbm_ports.specs.Counts.{counted, Rose};
 ghost use Rattle.vbm_ports.specs.Names.{IsStoreName};
 
 use crate::names::names_store_file;
+use crate::retried::read_some;
 use crate::{Disk, Failed, NoMemory, Text};
 use std::alloc::Global;
 use std::fs::{OpenFile, OpenOptions};
@@ -255,27 +256,14 @@ fn fill<F: Read>(file: &mut F, out: &mut [u8]) -> Result<usize, Failed>
     ensures { IfOk result (λ n. n ≤ length out.old) }
 {
     let mut filled = 0;
-    for _ in 0..u64::MAX {
-        if filled >= out.len() {
+    while filled < out.len() {
+        let n = read_some(file, &mut out[filled..])?;
+        if n == 0 {
             break;
         }
-        match file.read(&mut out[filled..]) {
-            Ok(0) => break,
-            Ok(n) => filled += n,
-            Err(error) if error.kind() == ErrorKind::Interrupted => {}
-            Err(_) => return Err(Failed),
-        }
+        filled += n;
     }
     Ok(filled)
-}
-
-fn read_some<F: Read>(file: &mut F, out: &mut [u8]) -> Result<usize, Failed>
-    ensures { IfOk result (λ n. n ≤ length out.new) }
-{
-    match file.read(out) {
-        Ok(n) => Ok(n),
-        Err(_) => Err(Failed),
-    }
 }
 
 fn write_at<R: Files>(rt: &R, path: &str, at: u64, bytes: &[u8]) -> Result<(), Failed> {
@@ -336,6 +324,7 @@ impl<'a, R: Files> FolderDisk<'a, R> {
         ensures calls { self.new.calls ≡ counted self.old.calls }
         ensures more { (self.old.calls ≤ self.new.calls) × (self.old.faults ≤ self.new.faults) }
         ensures cause { IsErr result → Rose self.old.faults self.new.faults }
+        ensures no_fault { IsOk result → self.new.faults ≡ self.old.faults }
         ensures same { result ≡ outcome }
     {
         self.calls = self.calls.saturating_add(1);

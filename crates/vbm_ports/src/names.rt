@@ -1,8 +1,8 @@
-//! The names of the files in a store.
+//! The names of the files, the machines and the snapshots in a store.
 
 ghost use Rattle.std.specs.Prelude.{◌≡◌, ◌<◌, length, codes, nat_eq};
 ghost use Rattle.std.specs.List.{list_all, ends_with};
-ghost use Rattle.vbm_ports.specs.Names.{is_medium_name, is_inner_name, is_store_name, is_name_character, is_lower_hex, is_hyphenated};
+ghost use Rattle.vbm_ports.specs.Names.{is_medium_name, is_short_name, is_inner_name, is_store_name, is_name_character, is_lower_hex, is_hyphenated};
 
 fn is_name_byte(c: u8) -> bool
     ensures { result ≡ is_name_character c }
@@ -32,6 +32,18 @@ pub fn names_medium(name: &[u8]) -> bool
         return false;
     }
     are_name_bytes(name) && ends_in_vdi(name)
+}
+
+/// Whether a machine or a snapshot may have this name: 1 to 32 letters, digits, `.`, `_` and `-`, with no `-` at the
+/// front.
+#[tactic(auto, unfolding(crate::specs::Names::is_short_name))]
+pub fn names_machine(name: &[u8]) -> bool
+    ensures { result ≡ is_short_name name.now }
+{
+    if name.is_empty() || name.len() > 32 || name[0] == b'-' {
+        return false;
+    }
+    are_name_bytes(name)
 }
 
 fn is_lower_hex_byte(c: u8) -> bool

@@ -3,8 +3,9 @@
 ghost use Rattle.std.specs.Prelude.{◌≡◌, ◌≤◌, []};
 ghost use Rattle.vbm_ports.specs.Counts.{Rose};
 
+use crate::retried::{read_some, write_some};
 use crate::{Failed, Sink, Source};
-use std::io::{Input, Print, Read};
+use std::io::{Input, Print};
 
 /// Standard input.
 #[derive(Drop)]
@@ -35,13 +36,11 @@ impl<R: Input> Source for StdinSource<'_, R> {
     ghost faults = { λ source. source.faults };
 
     fn take(&mut self, out: &mut [u8]) -> Result<usize, Failed> {
-        match self.reader.read(out) {
-            Ok(n) => Ok(n),
-            Err(_) => {
-                self.faults = self.faults.saturating_add(1);
-                Err(Failed)
-            }
+        let outcome = read_some(&mut self.reader, out);
+        if outcome.is_err() {
+            self.faults = self.faults.saturating_add(1);
         }
+        outcome
     }
 }
 
@@ -68,14 +67,11 @@ impl<R: Print> Sink for StdoutSink<'_, R> {
 
     ghost faults = { λ sink. sink.faults };
 
-    // A put that takes nothing has failed.
     fn put(&mut self, bytes: &[u8]) -> Result<usize, Failed> {
-        match self.rt.write_some(bytes) {
-            Ok(n) if n > 0 => Ok(n),
-            _ => {
-                self.faults = self.faults.saturating_add(1);
-                Err(Failed)
-            }
+        let outcome = write_some(self.rt, bytes);
+        if outcome.is_err() {
+            self.faults = self.faults.saturating_add(1);
         }
+        outcome
     }
 }

@@ -24,7 +24,8 @@ pub trait Source {
         ensures err { tells → OnErr result (rest self.new ≡ rest self.old) }
         ensures bound { IfOk result (λ n. n ≤ length out.old) }
         ensures faults { faults self.old ≤ faults self.new }
-        ensures cause { OnErr result (Rose (faults self.old) (faults self.new)) };
+        ensures cause { OnErr result (Rose (faults self.old) (faults self.new)) }
+        ensures no_fault { IfOk result (λ _. faults self.new ≡ faults self.old) };
 }
 
 /// A place for bytes that go out.
@@ -45,7 +46,8 @@ pub trait Sink {
         ensures err { tells → OnErr result (written self.new ≡ written self.old) }
         ensures bound { IfOk result (λ n. (0 < n) × (n ≤ length bytes.now)) }
         ensures faults { faults self.old ≤ faults self.new }
-        ensures cause { OnErr result (Rose (faults self.old) (faults self.new)) };
+        ensures cause { OnErr result (Rose (faults self.old) (faults self.new)) }
+        ensures no_fault { IfOk result (λ _. faults self.new ≡ faults self.old) };
 }
 
 /// Writes all bytes. A sink that fails has got a proper prefix of them.
@@ -55,6 +57,7 @@ pub fn put_all<K: Sink>(sink: &mut K, bytes: &[u8]) -> Result<(), Failed>
         × (K.written sink.new ≡ K.written sink.old ++ front)) }
     ensures faults { K.faults sink.old ≤ K.faults sink.new }
     ensures cause { OnErr result (Rose (K.faults sink.old) (K.faults sink.new)) }
+    ensures no_fault { OnOk result (K.faults sink.new ≡ K.faults sink.old) }
 {
     let mut done = 0;
     while done < bytes.len() {

@@ -1,5 +1,8 @@
-use Rattle.std.proofs.Common.{◌≤◌, length}
+use Rattle.std.proofs.Common.{◌-◌, ◌≤◌, length}
 use Rattle.vbm_ports.proofs.folder.fill.Given as goal
 
-abbrev pub invariant-loop : goal.invariant-loop
-invariant-loop g l = l.filled ≤ length l.out
+abbrev pub invariant-loop-filled : goal.invariant-loop-filled
+invariant-loop-filled g l = l.filled ≤ length l.out
+
+abbrev pub decreases-loop-filled : goal.decreases-loop-filled
+decreases-loop-filled g l = length l.out - l.filled
