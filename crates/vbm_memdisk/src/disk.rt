@@ -164,6 +164,7 @@ impl MemDisk {
         ensures calls { self.old.calls ≤ self.new.calls }
         ensures faults { self.old.faults ≤ self.new.faults }
         ensures cause { OnErr result (Rose self.old.faults self.new.faults) }
+        ensures no_fault { OnOk result (self.new.faults ≡ self.old.faults) }
         ensures told { IsErr result ↔ MustFail self.old }
     {
         let fails = self.is_listed() || self.is_stopped();
@@ -179,6 +180,7 @@ impl MemDisk {
         ensures only { self.new ≡ record self.old { faults = self.new.faults; refused = self.new.refused } }
         ensures faults { self.old.faults ≤ self.new.faults }
         ensures cause { OnErr result (Rose self.old.faults self.new.faults) }
+        ensures no_fault { OnOk result (self.new.faults ≡ self.old.faults) }
         ensures refused { OnErr result (Rose self.old.refused self.new.refused) }
         ensures unrefused { OnOk result (self.new.refused ≡ self.old.refused) }
         ensures ok { IsOk result ↔ IsOk outcome }
@@ -229,6 +231,7 @@ impl Disk for MemDisk {
         ensures reads { OnlyReads (Unit {0}) (memory_state self.old) (memory_state self.new) }
         ensures calls { (memory_state self.new).calls ≡ counted (memory_state self.old).calls }
         ensures cause { OnErr result (Rose (memory_state self.old).faults (memory_state self.new).faults) }
+        ensures no_fault { IfOk result (λ _. (memory_state self.new).faults ≡ (memory_state self.old).faults) }
         // It fails exactly where it was told to.
         ensures told { IsErr result ↔ MustFail self.old }
         ensures past { past_of self.new ≡ past_of self.old }
@@ -247,6 +250,7 @@ impl Disk for MemDisk {
         ensures reads { OnlyReads (Unit {0}) (memory_state self.old) (memory_state self.new) }
         ensures calls { (memory_state self.new).calls ≡ counted (memory_state self.old).calls }
         ensures cause { OnErr result (Rose (memory_state self.old).faults (memory_state self.new).faults) }
+        ensures no_fault { IfOk result (λ _. (memory_state self.new).faults ≡ (memory_state self.old).faults) }
         ensures told { IsErr result ↔ MustFail self.old }
         ensures past { past_of self.new ≡ past_of self.old }
         ensures refused { refused_of self.new ≡ refused_of self.old }
@@ -269,6 +273,7 @@ impl Disk for MemDisk {
         ensures time { Passes (memory_state self.old) (memory_state self.new) (memory_state self.new).may_leave }
         ensures counts { CountsCall (memory_state self.old) (memory_state self.new) }
         ensures cause { OnErr result (Rose (memory_state self.old).faults (memory_state self.new).faults) }
+        ensures no_fault { OnOk result ((memory_state self.new).faults ≡ (memory_state self.old).faults) }
         // It fails exactly where it was told to, or where it found no memory.
         ensures told { MustFail self.old → IsErr result }
         ensures why { IsErr result → MustFail self.old ⊎ Rose (refused_of self.old) (refused_of self.new) }
@@ -307,6 +312,7 @@ impl Disk for MemDisk {
         ensures time { Passes (memory_state self.old) (memory_state self.new) (memory_state self.new).may_leave }
         ensures counts { CountsCall (memory_state self.old) (memory_state self.new) }
         ensures cause { OnErr result (Rose (memory_state self.old).faults (memory_state self.new).faults) }
+        ensures no_fault { OnOk result ((memory_state self.new).faults ≡ (memory_state self.old).faults) }
         ensures told { MustFail self.old → IsErr result }
         ensures why { IsErr result → MustFail self.old ⊎ Rose (refused_of self.old) (refused_of self.new) }
         ensures past { OnOk result (past_of self.new ≡ with_event (Cut name.now len) (past_of self.old)) }
@@ -331,6 +337,7 @@ impl Disk for MemDisk {
         ensures time { Passes (memory_state self.old) (memory_state self.new) (memory_state self.new).may_leave }
         ensures counts { CountsCall (memory_state self.old) (memory_state self.new) }
         ensures cause { OnErr result (Rose (memory_state self.old).faults (memory_state self.new).faults) }
+        ensures no_fault { OnOk result ((memory_state self.new).faults ≡ (memory_state self.old).faults) }
         ensures told { MustFail self.old → IsErr result }
         ensures why { IsErr result → MustFail self.old ⊎ Rose (refused_of self.old) (refused_of self.new) }
         ensures past { OnOk result (past_of self.new ≡ with_event (Removed name.now) (past_of self.old)) }
@@ -351,6 +358,7 @@ impl Disk for MemDisk {
         ensures reads { OnlyReads (Unit {0}) (memory_state self.old) (memory_state self.new) }
         ensures calls { (memory_state self.new).calls ≡ counted (memory_state self.old).calls }
         ensures cause { OnErr result (Rose (memory_state self.old).faults (memory_state self.new).faults) }
+        ensures no_fault { OnOk result ((memory_state self.new).faults ≡ (memory_state self.old).faults) }
         ensures told { MustFail self.old → IsErr result }
         ensures why { IsErr result → MustFail self.old ⊎ Rose (refused_of self.old) (refused_of self.new) }
         ensures past { OnOk result (past_of self.new ≡ with_event Synced (past_of self.old)) }

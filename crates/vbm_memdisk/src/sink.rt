@@ -89,6 +89,7 @@ impl Sink for MemSink {
         ensures bound { IfOk result (λ n. (0 < n) × (n ≤ length bytes.now)) }
         ensures faults { self.old.faults ≤ self.new.faults }
         ensures cause { OnErr result (Rose self.old.faults self.new.faults) }
+        ensures no_fault { IfOk result (λ _. self.new.faults ≡ self.old.faults) }
         ensures limit { self.new.limit ≡ self.old.limit }
         // It takes all that fit below the limit, and changes nothing else.
         ensures amount { IfOk result (λ n. n ≡ room_below self.old.limit (length self.old.written) (length bytes.now)) }

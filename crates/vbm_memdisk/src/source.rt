@@ -92,6 +92,7 @@ impl Source for MemSource {
         ensures bound { IfOk result (λ n. n ≤ length out.old) }
         ensures faults { self.old.faults ≤ self.new.faults }
         ensures cause { OnErr result (Rose self.old.faults self.new.faults) }
+        ensures no_fault { IfOk result (λ _. self.new.faults ≡ self.old.faults) }
         // It gives all that it may at once, and changes nothing else.
         ensures amount { IfOk result (λ n. n ≡ given_count self.old (length out.old)) }
         ensures took { IfOk result (λ n. self.new ≡ record self.old { rest = drop n self.old.rest; taken = self.old.taken + n }) }
