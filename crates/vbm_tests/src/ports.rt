@@ -4,7 +4,8 @@ use crate::fixtures::{image, sector_line};
 use std::test::Fail;
 use vbm_memdisk::{MemDisk, MemSink, MemSource};
 use vbm_ports::{
-    Bytes, Failed, Names, Sequence, Sink, Source, Text, names_medium, names_store_file, put_all,
+    Bytes, Failed, Names, Sequence, Sink, Source, Text, names_machine, names_medium,
+    names_store_file, put_all,
 };
 use vbm_top::{PeekResult, peek};
 use vbm_world::Refusal;
@@ -90,5 +91,22 @@ fn knows_store_names(rt: HostRuntime) {
         ("", false),
     ] {
         assert_eq!(rt; names_store_file(name.as_bytes()), is_store_name, "{name}");
+    }
+}
+
+#[test]
+fn knows_names_of_machines(rt: HostRuntime) {
+    for (name, is_short_name) in [
+        ("m", true),
+        (".A_z-09", true),
+        ("abcdefghijklmnopqrstuvwxyz012345", true),
+        ("abcdefghijklmnopqrstuvwxyz0123456", false),
+        ("-m", false),
+        ("m n", false),
+        ("m:1", false),
+        ("m/s", false),
+        ("", false),
+    ] {
+        assert_eq!(rt; names_machine(name.as_bytes()), is_short_name, "{name}");
     }
 }
