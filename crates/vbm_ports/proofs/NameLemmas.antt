@@ -3,7 +3,7 @@ use Rattle.std.proofs.Common.{◌≡◌, ℕ, ◌≤◌, Bool, true, false, List
 use Rattle.std.specs.Prelude.{◌&&◌, ◌||◌, codes}
 use Rattle.std.proofs.lemmas.Bool.{leb-true, eqb-true}
 use Rattle.std.proofs.lemmas.Slice.Eq.{bytes_eq-Decides}
-use Rattle.vbm_ports.specs.Names.{is_medium_name, is_inner_name, IsStoreName}
+use Rattle.vbm_ports.specs.Names.{is_medium_name, is_inner_name, is_short_name, IsStoreName}
 
 first_of_both : (a b : Bool) → (a && b) ≡ true → a ≡ true
 first_of_both true b both = refl
@@ -17,15 +17,20 @@ either_of : (a b : Bool) → (a || b) ≡ true → (a ≡ true) ⊎ (b ≡ true)
 either_of true b some = inl refl
 either_of false b some = inr some
 
-medium_name_short : (name : List ℕ) → is_medium_name name ≡ true → length name ≤ 64
+pub medium_name_short : (name : List ℕ) → is_medium_name name ≡ true → length name ≤ 64
 unfolding is_medium_name
 medium_name_short name is =
     leb-true _ _ (second_of_both _ _ (first_of_both _ _ (first_of_both _ _ (first_of_both _ _ is))))
 
-inner_name_short : (name : List ℕ) → is_inner_name name ≡ true → length name ≤ 64
+pub inner_name_short : (name : List ℕ) → is_inner_name name ≡ true → length name ≤ 64
 unfolding is_inner_name
 inner_name_short name is =
     let size : length name ≡ 42 = eqb-true _ _ (first_of_both _ _ (first_of_both _ _ (first_of_both _ _ is))) in omega arith
+
+-- the name of a machine or a snapshot has at most 32 bytes
+pub machine_name_short : (name : List ℕ) → is_short_name name ≡ true → length name ≤ 32
+unfolding is_short_name
+machine_name_short name is = leb-true _ _ (second_of_both _ _ (first_of_both _ _ (first_of_both _ _ is)))
 
 -- a name of a store has at most 64 bytes
 pub store_name_short : (name : List ℕ) → IsStoreName name → length name ≤ 64
