@@ -8,3 +8,7 @@ pub mod TallyLemmas
 pub mod Words
 pub mod Likes
 pub mod NewImages
+pub mod Pieces
+pub mod Blocks
+pub mod Torn
+pub mod Writings

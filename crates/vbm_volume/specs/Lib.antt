@@ -6,4 +6,5 @@ pub mod Positions
 pub mod Tally
 pub mod Faults
 pub mod Like
+pub mod Wrote
 pub mod Made
