@@ -12,3 +12,4 @@ pub mod Pieces
 pub mod Blocks
 pub mod Torn
 pub mod Writings
+pub mod Downs

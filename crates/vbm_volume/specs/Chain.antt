@@ -40,12 +40,18 @@ sector_down (link ∷ below) i =
 abbrev pub chain_sector : List Link → ℕ → List ℕ
 chain_sector links i = sector_down (reverse links) i
 
+-- how many sectors a chain has, told from the last file down: those of that file
+abbrev pub count_down : List Link → ℕ
+count_down [] = 0
+count_down (link ∷ below) = sector_count link.1
+
+-- the disk of a chain that is told from the last file down
+abbrev pub flat_down : List Link → FlatDisk
+flat_down links = first_sectors (sector_down links) (count_down links)
+
 -- how many sectors a chain has: those of its last file
 abbrev pub chain_count : List Link → ℕ
-chain_count links = last_count (reverse links) where
-  last_count : List Link → ℕ
-  last_count [] = 0
-  last_count (link ∷ below) = sector_count link.1
+chain_count links = count_down (reverse links)
 
 -- the disk of a chain
 abbrev pub flat_of_chain : List Link → FlatDisk
