@@ -13,3 +13,5 @@ pub mod Blocks
 pub mod Torn
 pub mod Writings
 pub mod Downs
+pub mod NewHeaders
+pub mod FreeImages

@@ -1,6 +1,6 @@
 -- Pieces of a file before and after bytes are put into it.
 use Rattle.std.proofs.Common.{◌≡◌, ◌⊎◌, ℕ, ◌+◌, ◌-◌, ◌<◌, ◌≤◌, List, ◌++◌, length, get_or, take, drop, replicate, refl, sym, ap, ◌∙◌, arith, inl, inr}
-use Rattle.std.proofs.lemmas.List.{append_assoc, drop_at, drop-drop, drop-take, ext_get_or, get_or-drop, get_or-take, length-append}
+use Rattle.std.proofs.lemmas.List.{append_assoc, append-nil, drop_at, drop-drop, drop-take, ext_get_or, get_or-drop, get_or-take, length-append}
 use Rattle.std.proofs.lemmas.List.{length-drop, length-replicate, length-take, take-take, take_at}
 use Rattle.vbm_ports.specs.Crash.{TornBytes}
 use Rattle.vbm_ports.specs.Files.{piece, put}
@@ -93,3 +93,14 @@ drop-put at bytes f from past =
     ext_get_or 0 (drop from (put at bytes f)) (drop from f)
     (omega (arith, length-drop from (put at bytes f), length-drop from f, length-put_any at bytes f))
     (λ i h. get_or-drop from (put at bytes f) i 0 ∙ put_after_any at bytes f (from + i) (omega arith) ∙ sym (get_or-drop from f i 0))
+
+-- bytes that are put where the known start of a file ends
+pub put-next : (at : ℕ) (bytes done rest : List ℕ) → length done ≡ at
+    → put at bytes (done ++ rest) ≡ (done ++ bytes) ++ drop (length bytes) rest
+put-next at bytes done rest long =
+    let none : at - length (done ++ rest) ≡ 0 = omega (arith, long, length-append done rest) in
+    let front : take at (done ++ rest) ≡ done = take_at done rest at long in
+    let behind : drop (at + length bytes) (done ++ rest) ≡ drop (length bytes) rest =
+    ap (λ n. drop n (done ++ rest)) (omega arith) ∙ sym (drop-drop (length bytes) at (done ++ rest))
+    ∙ ap (drop (length bytes)) (drop_at done rest at long) in
+    rw (front, none, behind) (ap (λ l. l ++ bytes ++ drop (length bytes) rest) (append-nil done))

@@ -49,6 +49,12 @@ pub record IsNewHeader (h : Header) : Type 0 where
   -- a base image has no parent
   pub base : IsFalse (is_differencing h.image_type) → (h.link ≡ zero_bytes) × (h.parent_modify ≡ zero_bytes)
 
+-- A header as this project makes it for an image that is made in steps, of either type of a base image: at first no block has
+-- its data (cBlocksAllocated is 0).
+pub record IsMakingHeader (h : Header) : Type 0 where
+  pub new : IsNewHeader (record h { image_type = Dynamic })
+  pub base : IsFalse (is_differencing h.image_type)
+
 -- the bytes up to the block map
 abbrev pub made_front : Header → List ℕ
 made_front h = header_bytes h ++ zeros (h.off_blocks - 472)
@@ -56,3 +62,7 @@ made_front h = header_bytes h ++ zeros (h.off_blocks - 472)
 -- The bytes of a new image: the header, the block map, and data of zeros.
 abbrev pub made_image : Header → List ℕ
 made_image h = made_front h ++ (new_map h.image_type h.blocks ++ zeros (h.off_data - map_end h + h.allocated * 2 ^ 20))
+
+-- The bytes of an image of which every block is free, whatever its type. It ends where the data begins (offData).
+abbrev pub free_image : Header → List ℕ
+free_image h = made_front h ++ (replicate (4 * h.blocks) 255 ++ zeros (h.off_data - map_end h))
