@@ -13,5 +13,5 @@ mod tally;
 pub use fault::MapFault;
 pub use flat::{Flat, Sector, Variant, Volume};
 pub use image::{read_image, read_sector};
-pub use made::new_header;
+pub use made::{header_over, making_header, new_header};
 pub use map::{check_map, read_map};
