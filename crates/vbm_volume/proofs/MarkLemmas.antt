@@ -6,7 +6,7 @@ use Rattle.std.proofs.lemmas.Bool.{cases_lt, eq-eqb}
 use Rattle.std.proofs.lemmas.Bool.Decides.{eqb_tells}
 use Rattle.std.proofs.lemmas.List.{get_or_default, get_or-replicate, get_or_past, length-replicate}
 use Rattle.std.proofs.lemmas.Nat.Bits.{bit_at-lt, bit_at-zero, shr_and_one, bit_at_set_same, bit_at_set_other}
-use Rattle.vbm_volume.specs.Marks.{is_marked}
+use Rattle.vbm_volume.specs.Marks.{is_marked, MarksOneMore}
 
 below_two : (b : ℕ) → b < 2 → eqb b 0 ≡ not (eqb b 1)
 below_two zero h = refl
@@ -56,3 +56,19 @@ is_marked-zeros count n =
       | inr past ↦ get_or_past (replicate count 0) (n / 64) 0 (omega (arith, length-replicate {A = ℕ} count 0))
     ] in
     ap (λ w. eqb (bit_at w (n % 64)) 1) none ∙ ap (λ b. eqb b 1) (bit_at-zero (n % 64))
+
+-- a number is marked in words that have room for it
+pub MarksOneMore-set : (words : List ℕ) (n word : ℕ) → word ≡ get_or words (n / 64) word → n < 64 * length words
+    → MarksOneMore words (set words (n / 64) (bit_or word (1 * 2 ^ (n % 64) % 2 ^ 64))) n
+MarksOneMore-set words n word is room = record {
+  here = is_marked-set_same words n word room;
+  others = λ m other. is_marked-set_other words n m word is room other;
+}
+
+-- the bit of a number, as it is read
+pub read_bit : (words : List ℕ) (n word : ℕ) → word ≡ get_or words (n / 64) word → n < 64 * length words
+    → eqb (bit_and (word / 2 ^ (n % 64)) 1) 1 ≡ is_marked words n
+unfolding is_marked
+read_bit words n word is room =
+    ap (λ b. eqb b 1) (shr_and_one word (n % 64))
+    ∙ ap (λ w. eqb (bit_at w (n % 64)) 1) (is ∙ get_or_default words (n / 64) word 0 (omega arith))

@@ -6,5 +6,5 @@ use Rattle.vbm_volume.specs.declared.tally.Tally.{Tally}
 -- the tally of these positions: those that are not marked are listed
 pub record IsTally (tally : Tally) (ps : List ℕ) : Type 0 where
   pub end : tally.end ≡ end_of ps
-  pub low : AreMarked tally.limits.low_end tally.low.words.items tally.is_twice ps
+  pub low : AreMarked tally.limits.low_end tally.low tally.is_twice ps
   pub high : tally.high.items ≡ filter (is_high tally.limits.low_end) ps

@@ -1,6 +1,6 @@
 //! The positions among words of a block map.
 
-ghost use Rattle.std.specs.Prelude.{◌≡◌, ◌≤◌, ◌<◌, ◌+◌, ◌*◌, ◌^◌, ◌++◌, ℕ, [], ◌∷◌, List, not, filter, max, length, vec_len, OnOk};
+ghost use Rattle.std.specs.Prelude.{◌≡◌, ◌≤◌, ◌<◌, ◌+◌, ◌*◌, ◌^◌, ◌++◌, ℕ, [], ◌∷◌, List, not, filter, max, length, OnOk};
 ghost use Rattle.std.specs.List.Sorted.{IsNonDecreasing};
 ghost use Rattle.vbm_header.specs.Field.{number_at};
 ghost use Rattle.vbm_volume.specs.Image.{is_position, is_distinct};
@@ -56,10 +56,10 @@ pub(crate) fn mark_words(
 ) -> bool
     requires words { 4 * count ≤ length piece.now }
     requires most { low_end ≤ 2 ^ 22 }
-    requires room { low_end ≤ 64 * vec_len low.old.words }
-    ensures marked { (ps : List ℕ) → AreMarked low_end low.old.words.items is_twice ps
-        → AreMarked low_end low.new.words.items result (ps ++ positions_in piece.now count) }
-    ensures room { vec_len low.new.words ≡ vec_len low.old.words }
+    requires room { low_end ≤ 64 * length low.old }
+    ensures marked { (ps : List ℕ) → AreMarked low_end low.old is_twice ps
+        → AreMarked low_end low.new result (ps ++ positions_in piece.now count) }
+    ensures room { length low.new ≡ length low.old }
 {
     let mut twice = is_twice;
     for i in 0..count {
@@ -70,13 +70,13 @@ pub(crate) fn mark_words(
 
 fn mark(low: &mut Marks, low_end: u32, is_twice: bool, word: u32) -> bool
     requires most { low_end ≤ 2 ^ 22 }
-    requires room { low_end ≤ 64 * vec_len low.old.words }
-    ensures marked { (ps : List ℕ) → AreMarked low_end low.old.words.items is_twice ps
-        → AreMarked low_end low.new.words.items result (ps ++ filter is_position (word ∷ [])) }
-    ensures room { vec_len low.new.words ≡ vec_len low.old.words }
+    requires room { low_end ≤ 64 * length low.old }
+    ensures marked { (ps : List ℕ) → AreMarked low_end low.old is_twice ps
+        → AreMarked low_end low.new result (ps ++ filter is_position (word ∷ [])) }
+    ensures room { length low.new ≡ length low.old }
 {
     if word < low_end {
-        let is_new = low.insert(word);
+        let is_new = low.mark(word);
         return is_twice | !is_new;
     }
     is_twice

@@ -1,6 +1,6 @@
 //! The three conditions on the positions of a block map, tested as its words come in.
 
-ghost use Rattle.std.specs.Prelude.{◌≡◌, ◌≤◌, ◌+◌, ◌*◌, ◌^◌, ◌++◌, ℕ, [], List, not, nat_lt, nat_le, length, vec_len, IfOk, OnOk};
+ghost use Rattle.std.specs.Prelude.{◌≡◌, ◌≤◌, ◌+◌, ◌*◌, ◌^◌, ◌++◌, ℕ, [], List, not, nat_lt, nat_le, length, IfOk, OnOk};
 ghost use Rattle.std.specs.List.{list_all};
 ghost use Rattle.vbm_header.specs.Header.{first_that_fails};
 ghost use Rattle.vbm_volume.specs.Image.{is_distinct, map_conditions};
@@ -37,7 +37,7 @@ pub(crate) struct Tally {
     is_twice: bool,
     ghost fits: { end ≤ 2 ^ 32 },
     ghost most_marks: { limits.low_end ≤ 2 ^ 22 },
-    ghost room: { limits.low_end ≤ 64 * vec_len low.words },
+    ghost room: { limits.low_end ≤ 64 * length low },
 }
 
 impl Tally {

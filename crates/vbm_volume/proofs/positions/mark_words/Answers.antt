@@ -19,6 +19,6 @@ loop-i-preserved c = record {
       let before : List ℕ = positions_in c.args.piece.now c.loop-i.i in
       let same = append_assoc ps before (filter is_position (c.word_at.result ∷ []))
       ∙ ap (λ qs. ps ++ qs) (sym (positions_in-one_more c.args.piece.now c.loop-i.i c.word_at.result c.word_at.ensures)) in
-      subst (AreMarked c.args.low_end c.mark-twice.new.low.words.items c.mark-twice.result) same
+      subst (AreMarked c.args.low_end c.mark-twice.new.low c.mark-twice.result) same
       (c.mark-twice.ensures.marked (ps ++ before) (c.loop-i.invariant.marked ps was));
 }
