@@ -1,5 +1,5 @@
 -- An image of which every block is free: it is accepted, reads as what stands below it or as zeros, and comes of any old file.
-use Rattle.std.proofs.Common.{◌≡◌, ◌≢◌, ℕ, ◌+◌, ◌-◌, ◌*◌, ◌/◌, ◌^◌, ◌<◌, ◌≤◌, true, false, List, [], ◌∷◌, ◌++◌, length, take, drop, replicate}
+use Rattle.std.proofs.Common.{◌≡◌, ◌≢◌, ℕ, ◌+◌, ◌-◌, ◌*◌, ◌/◌, ◌^◌, ◌<◌, true, List, [], ◌∷◌, ◌++◌, length, take, drop, replicate}
 use Rattle.std.proofs.Common.{reverse}
 use Rattle.std.proofs.Common.{Ok, refl, sym, ap, ◌∙◌, arith}
 use Rattle.std.specs.Prelude.{nat_le, nat_lt}
@@ -9,7 +9,7 @@ use Rattle.vbm_ports.specs.Files.{put}
 use Rattle.vbm_header.specs.declared.Header.{Header}
 use Rattle.vbm_header.specs.declared.ImageType.{ImageType}
 use Rattle.vbm_header.specs.declared.ImageType.TheVariants.{Dynamic, Fixed, Differencing}
-use Rattle.vbm_header.specs.Header.{header_of, unless}
+use Rattle.vbm_header.specs.Header.{unless}
 use Rattle.vbm_header.specs.Written.{header_bytes, zeros}
 use Rattle.vbm_header.proofs.Headers.{none_fails}
 use Rattle.vbm_volume.specs.Chain.{Link, count_down, flat_down, chain_count, flat_of_chain}

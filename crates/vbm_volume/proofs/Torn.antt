@@ -1,17 +1,16 @@
 -- A torn write to sectors of an image keeps the image but for these sectors.
-use Rattle.std.proofs.Common.{◌≡◌, ◌≢◌, ◌⊎◌, ℕ, ◌+◌, ◌*◌, ◌/◌, ◌%◌, ◌<◌, ◌≤◌, Bool, true, false, List, length, take, Ok, refl, sym, ap, ◌∙◌, arith}
+use Rattle.std.proofs.Common.{◌≡◌, ◌≢◌, ◌⊎◌, ℕ, ◌+◌, ◌*◌, ◌/◌, ◌%◌, ◌<◌, ◌≤◌, Bool, false, List, length, take, Ok, refl, sym, ap, ◌∙◌, arith}
 use Rattle.std.proofs.Common.{inl, inr}
-use Rattle.std.specs.Prelude.{◌==◌, ◌&&◌, IsFalse, nat_le, nat_lt}
+use Rattle.std.specs.Prelude.{◌==◌, nat_lt}
 use Rattle.std.proofs.lemmas.Bool.{cases_Bool, cases_lt, eq-eqb, le-leb, lt-ltb, ltb-true, eqb-true, false≢true}
 use Rattle.std.proofs.lemmas.List.{length-take}
 use Rattle.vbm_ports.specs.Crash.{TornBytes}
 use Rattle.vbm_header.specs.declared.Header.{Header}
 use Rattle.vbm_header.proofs.Headers.{accepted}
 use Rattle.vbm_volume.specs.Image.{image_of, word_of}
-use Rattle.vbm_volume.specs.Like.{map_end, HasPosition, sector_at, IsLikeFile}
+use Rattle.vbm_volume.specs.Like.{map_end, sector_at, IsLikeFile}
 use Rattle.vbm_volume.specs.Wrote.{Covers, sectors_at, TouchesOnly}
 use Rattle.vbm_volume.proofs.Images.{image_of-ok}
-use Rattle.vbm_volume.proofs.Likes.{like_refl}
 use Rattle.vbm_volume.proofs.Pieces.{torn_piece}
 
 -- where the map ends

@@ -1,9 +1,8 @@
 -- Writes to sectors of an image, one after another.
-use Rattle.std.proofs.Common.{◌≡◌, ◌≢◌, ℕ, ◌+◌, ◌*◌, ◌≤◌, Bool, List, [], length, Option, Some, None, Result, Ok, Err, refl, sym, ap, subst, ◌∙◌}
+use Rattle.std.proofs.Common.{◌≡◌, ℕ, ◌+◌, ◌*◌, ◌≤◌, Bool, List, [], length, Option, Some, None, Result, Ok, Err, refl, sym, ap, subst, ◌∙◌}
 use Rattle.std.proofs.Common.{arith}
-use Rattle.std.specs.Prelude.{IsFalse}
 use Rattle.std.specs.Result.{OnOk, OnErr}
-use Rattle.vbm_ports.specs.Crash.{TornBytes, TornFile, WriteLeaves, Follows, Through}
+use Rattle.vbm_ports.specs.Crash.{TornFile, WriteLeaves, Follows, Through}
 use Rattle.vbm_ports.specs.Disk.{DiskState, Passes, OnlyReads}
 use Rattle.vbm_ports.specs.Files.{Files, bytes_of, put, IsWritten}
 use Rattle.vbm_ports.proofs.States.{Passes-trans, Passes-weaker}

@@ -1,4 +1,4 @@
-use Rattle.std.proofs.Common.{ap, ◌∙◌, ◌*◌, length, arith}
+use Rattle.std.proofs.Common.{ap, ◌∙◌, length, arith}
 use Rattle.vbm_volume.specs.Marks.{is_marked}
 use Rattle.vbm_volume.proofs.MarkLemmas.{read_bit}
 use Rattle.vbm_volume.proofs.marks.Marks.is_marked.Goals as goal
