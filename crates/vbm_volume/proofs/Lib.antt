@@ -15,3 +15,4 @@ pub mod Writings
 pub mod Downs
 pub mod NewHeaders
 pub mod FreeImages
+pub mod LikePieces

@@ -1,14 +1,14 @@
 -- A torn write to sectors of an image keeps the image but for these sectors.
 use Rattle.std.proofs.Common.{◌≡◌, ◌≢◌, ◌⊎◌, ℕ, ◌+◌, ◌*◌, ◌/◌, ◌%◌, ◌<◌, ◌≤◌, Bool, false, List, length, take, Ok, refl, sym, ap, ◌∙◌, arith}
 use Rattle.std.proofs.Common.{inl, inr}
-use Rattle.std.specs.Prelude.{◌==◌, nat_lt}
+use Rattle.std.specs.Prelude.{◌==◌, nat_lt, IsTrue}
 use Rattle.std.proofs.lemmas.Bool.{cases_Bool, cases_lt, eq-eqb, le-leb, lt-ltb, ltb-true, eqb-true, false≢true}
 use Rattle.std.proofs.lemmas.List.{length-take}
 use Rattle.vbm_ports.specs.Crash.{TornBytes}
 use Rattle.vbm_header.specs.declared.Header.{Header}
 use Rattle.vbm_header.proofs.Headers.{accepted}
-use Rattle.vbm_volume.specs.Image.{image_of, word_of}
-use Rattle.vbm_volume.specs.Like.{map_end, sector_at, IsLikeFile}
+use Rattle.vbm_volume.specs.Image.{image_of, word_of, data_at}
+use Rattle.vbm_volume.specs.Like.{map_end, HasPosition, sector_at, IsLikeFile}
 use Rattle.vbm_volume.specs.Wrote.{Covers, sectors_at, TouchesOnly}
 use Rattle.vbm_volume.proofs.Images.{image_of-ok}
 use Rattle.vbm_volume.proofs.Pieces.{torn_piece}
@@ -94,3 +94,20 @@ sectors_at-none f h p first count unused i settled = elim (cases_Bool (nat_lt (i
     | inl is ↦ absurd (unused (i / 2048) (ltb-true _ _ block) (eqb-true _ _ is))
   ]
 ]
+
+-- ---- the data of one position
+
+-- where each sector of a block at the position is among these, a write into the position's data touches no other
+pub place-touches : (f : List ℕ) (h : Header) (sectors : ℕ → Bool) (p at n : ℕ) → image_of f ≡ Ok h
+    → ((b k : ℕ) → HasPosition h f b → word_of f h b ≡ p → k < 2048 → IsTrue (sectors (b * 2048 + k)))
+    → data_at h p ≤ at → at + n ≤ data_at h (p + 1) → TouchesOnly h f sectors at n
+place-touches f h sectors p at n e all from to = record {
+  behind = omega (arith, map_within f h e);
+  apart = λ b k has low not_in. elim (cases_lt (word_of f h b) p) [
+    | inl less ↦ inl (omega arith)
+    | inr other ↦ elim (cases_lt p (word_of f h b)) [
+      | inl more ↦ inr (omega arith)
+      | inr neither ↦ let same : word_of f h b ≡ p = omega arith in absurd (false≢true (sym not_in ∙ all b k has same low))
+    ]
+  ];
+}

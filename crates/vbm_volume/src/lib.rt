@@ -16,3 +16,4 @@ pub use image::{read_image, read_sector};
 pub use made::{header_over, making_header, new_header};
 pub use map::{check_map, read_map};
 pub use marks::Marks;
+pub use positions::word_at;

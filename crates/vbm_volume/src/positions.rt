@@ -15,7 +15,7 @@ pub(crate) const FIRST_OTHER: u32 = 0xFFFF_FFFE;
 
 /// The word at a place of a piece of a block map.
 #[tactic(auto, unfolding(vbm_header::specs::Field::number_at))]
-pub(crate) fn word_at(piece: &[u8], at: usize) -> u32
+pub fn word_at(piece: &[u8], at: usize) -> u32
     requires { at + 4 ≤ length piece.now }
     ensures { result ≡ number_at piece.now at 4 }
 {
