@@ -16,3 +16,4 @@ pub mod Downs
 pub mod NewHeaders
 pub mod FreeImages
 pub mod LikePieces
+pub mod Rising

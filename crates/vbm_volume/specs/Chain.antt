@@ -1,5 +1,5 @@
 -- Chains of images (User Manual, Differencing Images): a base image, and differencing images each on the one before it.
-use Rattle.std.specs.Prelude.{ℕ, ◌+◌, ◌/◌, ◌&&◌, nat_le, Bool, if◌then◌else◌, List, [], ◌∷◌, map, reverse, replicate, Option, Some, None}
+use Rattle.std.specs.Prelude.{ℕ, ◌+◌, ◌/◌, ◌≤◌, ◌&&◌, nat_le, Bool, if◌then◌else◌, List, [], ◌∷◌, map, reverse, replicate, Option, Some, None}
 use Rattle.std.specs.Str.{bytes_eq}
 use Rattle.vbm_header.specs.declared.Header.{Header}
 use Rattle.vbm_header.specs.Header.{is_differencing}
@@ -56,3 +56,16 @@ chain_count links = count_down (reverse links)
 -- the disk of a chain
 abbrev pub flat_of_chain : List Link → FlatDisk
 flat_of_chain links = first_sectors (chain_sector links) (chain_count links)
+
+-- no file has more sectors than n, nor than the file above it; told from the last file down
+abbrev pub FallsFrom : ℕ → List Link → Type 0
+FallsFrom n [] = Unit {0}
+FallsFrom n (link ∷ below) = (sector_count link.1 ≤ n) × FallsFrom (sector_count link.1) below
+
+abbrev pub Falls : List Link → Type 0
+Falls [] = Unit {0}
+Falls (link ∷ below) = FallsFrom (sector_count link.1) below
+
+-- no file of a chain has more sectors than the one above it
+abbrev pub IsRising : List Link → Type 0
+IsRising links = Falls (reverse links)
