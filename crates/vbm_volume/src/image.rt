@@ -1,6 +1,6 @@
 //! An image file as a whole.
 
-ghost use Rattle.std.specs.Prelude.{◌≡◌, ◌≤◌, ◌<◌, ◌/◌, ◌+◌, ◌*◌, ℕ, List, length, take, drop, IfOk, OnErr, Some, Ok, Err};
+ghost use Rattle.std.specs.Prelude.{◌≡◌, ◌≢◌, ◌≤◌, ◌<◌, ◌/◌, ◌+◌, ◌*◌, ℕ, List, length, take, drop, IfOk, OnErr, Some, Ok, Err};
 ghost use Rattle.vbm_header.specs.declared.Header.{Header};
 ghost use Rattle.vbm_header.specs.Header.{header_of};
 ghost use Rattle.vbm_ports.specs.Counts.{Rose};
@@ -37,6 +37,8 @@ pub fn read_image<D: Disk>(
     ensures outside { IfOk result (λ read. read.0.blocks ≤ block → read.1 ≡ 0xFFFFFFFF) }
     ensures cause { result ≡ Err MapFault.Failed
         → Rose (D.state disk.old).faults (D.state disk.new).faults }
+    ensures no_fault { result ≢ Err MapFault.Failed
+        → (D.state disk.new).faults ≡ (D.state disk.old).faults }
     ensures reads { OnlyReads D.tells (D.state disk.old) (D.state disk.new) }
 {
     let header = read_front(disk, name, file_len)?;
@@ -53,6 +55,8 @@ fn read_front<D: Disk>(disk: &mut D, name: &[u8], file_len: u64) -> Result<Heade
         → Answers result (λ header. header) (header_of f file_len) }
     ensures cause { result ≡ Err MapFault.Failed
         → Rose (D.state disk.old).faults (D.state disk.new).faults }
+    ensures no_fault { result ≢ Err MapFault.Failed
+        → (D.state disk.new).faults ≡ (D.state disk.old).faults }
     ensures reads { OnlyReads D.tells (D.state disk.old) (D.state disk.new) }
 {
     let mut front = [0; HEADER_LEN];
@@ -78,6 +82,7 @@ pub fn read_sector<D: Disk>(
         → image_of f ≡ Ok header.now →
         lba < sector_count header.now → word ≡ word_of f header.now (lba / 2048) → sector ≡ base_sector f header.now lba) }
     ensures cause { OnErr result (Rose (D.state disk.old).faults (D.state disk.new).faults) }
+    ensures no_fault { IfOk result (λ _. (D.state disk.new).faults ≡ (D.state disk.old).faults) }
     ensures reads { OnlyReads D.tells (D.state disk.old) (D.state disk.new) }
 {
     if word >= FIRST_OTHER {

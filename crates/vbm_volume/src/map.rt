@@ -1,6 +1,6 @@
 //! The block map of an image.
 
-ghost use Rattle.std.specs.Prelude.{◌≡◌, ◌≤◌, ◌<◌, ◌+◌, ◌-◌, ◌*◌, ◌++◌, ◌⊎◌, ℕ, List, length, filter, min, take, vec_len, IfOk, IfErr, OnOk, OnErr, Some, Err};
+ghost use Rattle.std.specs.Prelude.{◌≡◌, ◌≢◌, ◌≤◌, ◌<◌, ◌+◌, ◌-◌, ◌*◌, ◌++◌, ◌⊎◌, ℕ, List, length, filter, min, take, vec_len, IfOk, IfErr, OnOk, OnErr, Some, Err};
 ghost use Rattle.vbm_header.specs.declared.Header.{Header};
 ghost use Rattle.vbm_header.specs.Field.{number_at};
 ghost use Rattle.vbm_ports.specs.Counts.{Rose};
@@ -39,6 +39,8 @@ pub fn check_map<D: Disk>(
         → Answers result (λ _. header.now) (image_of f) }
     ensures cause { result ≡ Err MapFault.Failed
         → Rose (D.state disk.old).faults (D.state disk.new).faults }
+    ensures no_fault { result ≢ Err MapFault.Failed
+        → (D.state disk.new).faults ≡ (D.state disk.old).faults }
     ensures reads { OnlyReads D.tells (D.state disk.old) (D.state disk.new) }
 {
     read_map(alloc, disk, name, header, file_len, 0)?;
@@ -65,6 +67,8 @@ pub fn read_map<D: Disk>(
     ensures outside { IfOk result (λ word. header.now.blocks ≤ block → word ≡ 0xFFFFFFFF) }
     ensures cause { result ≡ Err MapFault.Failed
         → Rose (D.state disk.old).faults (D.state disk.new).faults }
+    ensures no_fault { result ≢ Err MapFault.Failed
+        → (D.state disk.new).faults ≡ (D.state disk.old).faults }
     ensures reads { OnlyReads D.tells (D.state disk.old) (D.state disk.new) }
 {
     let mut tally = Tally::new(alloc, header, file_len)?;
@@ -102,8 +106,9 @@ fn scan<D: Disk>(
         → header.now.off_blocks + 4 * header.now.blocks ≤ length f →
         block < header.now.blocks → word ≡ word_of f header.now block) }
     ensures outside { IfOk result (λ word. header.now.blocks ≤ block → word ≡ 0xFFFFFFFF) }
-    ensures err { IfErr result (λ e. (e ≡ MapFault.NoMemory) ⊎ ((e ≡ MapFault.Failed)
-        × Rose (D.state disk.old).faults (D.state disk.new).faults)) }
+    ensures err { IfErr result (λ e. ((e ≡ MapFault.NoMemory) × ((D.state disk.new).faults ≡ (D.state disk.old).faults))
+        ⊎ ((e ≡ MapFault.Failed) × Rose (D.state disk.old).faults (D.state disk.new).faults)) }
+    ensures no_fault { IfOk result (λ _. (D.state disk.new).faults ≡ (D.state disk.old).faults) }
     ensures reads { OnlyReads D.tells (D.state disk.old) (D.state disk.new) }
 {
     let mut word = FREE;
@@ -136,8 +141,9 @@ fn add_piece<D: Disk>(
     ensures fields { D.tells → OnOk result ((f : List ℕ) (o w : ℕ)
         → (D.state disk.old).files name.now ≡ Some f → o + w ≤ length piece.old → at + o + w ≤ length f →
         number_at piece.new o w ≡ number_at f (at + o) w) }
-    ensures err { IfErr result (λ e. (e ≡ MapFault.NoMemory) ⊎ ((e ≡ MapFault.Failed)
-        × Rose (D.state disk.old).faults (D.state disk.new).faults)) }
+    ensures err { IfErr result (λ e. ((e ≡ MapFault.NoMemory) × ((D.state disk.new).faults ≡ (D.state disk.old).faults))
+        ⊎ ((e ≡ MapFault.Failed) × Rose (D.state disk.old).faults (D.state disk.new).faults)) }
+    ensures no_fault { OnOk result ((D.state disk.new).faults ≡ (D.state disk.old).faults) }
     ensures reads { OnlyReads D.tells (D.state disk.old) (D.state disk.new) }
 {
     read_words(disk, name, at, piece)?;
@@ -152,6 +158,7 @@ fn read_words<D: Disk>(disk: &mut D, name: &[u8], at: u64, piece: &mut [u8]) -> 
         → (D.state disk.old).files name.now ≡ Some f → o + w ≤ length piece.old → at + o + w ≤ length f →
         number_at piece.new o w ≡ number_at f (at + o) w) }
     ensures cause { OnErr result (Rose (D.state disk.old).faults (D.state disk.new).faults) }
+    ensures no_fault { OnOk result ((D.state disk.new).faults ≡ (D.state disk.old).faults) }
     ensures reads { OnlyReads D.tells (D.state disk.old) (D.state disk.new) }
 {
     let n = disk.read(name, at, piece)?;

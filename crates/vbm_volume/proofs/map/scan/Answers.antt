@@ -14,6 +14,7 @@ loop-done-init g c = record {
   limits = refl;
   word = λ told f is fits below. absurd (omega arith);
   outside = λ past. refl;
+  no_fault = refl;
   reads = OnlyReads-refl g.D.Disk.tells (g.D.Disk.state c.args.disk.now);
 }
 
@@ -35,5 +36,6 @@ loop-done-preserved g c = record {
         ∙ ap (λ o. number_at f o 4) place
   ];
   outside = λ past. c.word_or-word.ensures.elsewhere (inr (omega (arith, past, c.min-count.ensures))) ∙ c.loop-done.invariant.outside past;
+  no_fault = c.in_ok-add_piece.ensures.no_fault ∙ c.loop-done.invariant.no_fault;
   reads = OnlyReads-trans _ _ _ _ c.loop-done.invariant.reads c.add_piece.ensures.reads;
 }

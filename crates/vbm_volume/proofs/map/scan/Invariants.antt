@@ -15,6 +15,7 @@ invariant-loop-done g l = record {
   word : g.D.Disk.tells → (f : List ℕ) → (g.D.Disk.state l.initial.disk).files l.name ≡ Some f → l.header.off_blocks + 4 * l.header.blocks ≤ length f
       → l.block < l.done → l.word ≡ word_of f l.header l.block;
   outside : l.header.blocks ≤ l.block → l.word ≡ 0xFFFFFFFF;
+  no_fault : (g.D.Disk.state l.disk).faults ≡ (g.D.Disk.state l.initial.disk).faults;
   reads : OnlyReads g.D.Disk.tells (g.D.Disk.state l.initial.disk) (g.D.Disk.state l.disk);
 }
 
