@@ -14,6 +14,8 @@ showmediuminfo NAME
 list hdds
 peek FILE LBA
 script
+--help
+--version
 '
 
 # Whether the typed words begin the words of a form, where a word in capitals stands for any word.

@@ -123,6 +123,16 @@ def conditions():
     return {"%d %s" % (k + 1, name) for k, name in enumerate(re.findall(r"^    (\w+)", body, re.M))}
 
 
+def own_forms():
+    """The forms that bin/vbm answers without the program."""
+    return {(word,) for word in re.findall(r"(--\w+)\)$", text("bin", "vbm"), re.M)}
+
+
+def own_statuses():
+    """The statuses of bin/vbm that the program does not have."""
+    return set(re.findall(r"\bexit (\d\d)\b", text("bin", "vbm")))
+
+
 def statuses():
     """The numbers of the statuses, each with what standard error says."""
     numbers = dict(re.findall(r"pub const (\w+): u8 = (\d+);", text("crates", "vbm_top", "src", "status.rt")))
@@ -162,15 +172,27 @@ class Manual:
 
 def manual(cases, forms, definitions):
     page = Manual()
-    cases.same("the manual's synopsis", forms, page.forms())
+    cases.same("the manual's synopsis", forms | own_forms(), page.forms())
     cases.same("the manual's commands", {f[0] for f in forms}, {i.split()[0] for i in page.items("COMMANDS")})
     cases.same("the manual's refusals", refusals(definitions), {" ".join(i.split()[:3]) for i in page.items("REFUSALS")})
     cases.same("the manual's stores", stores(), page.items("REFUSED STORES"))
     cases.same("the manual's conditions on images", conditions(), page.items("REFUSED IMAGES"))
-    cases.same("the manual's statuses", statuses(), page.statuses())
+    cases.same("the manual's statuses", statuses() | own_statuses(), page.statuses())
     if shutil.which("mandoc"):
         done = subprocess.run(["mandoc", "-T", "lint", "-W", "warning", "doc/vbm.1"], cwd=ROOT, stdout=subprocess.PIPE, stderr=subprocess.STDOUT)
         cases.holds("mandoc", done.returncode == 0, done.stdout.decode())
+
+
+# ---- the help of bin/vbm
+
+
+def help_text(cases, forms):
+    done = subprocess.run([os.path.join(ROOT, "bin", "vbm"), "--help"], stdout=subprocess.PIPE, timeout=60)
+    told = set()
+    for line in re.findall(r"(?m)^  vbm (.*?)  ", done.stdout.decode()):
+        words = [WORD if w.strip("[]").isupper() else w.strip("[]") for w in line.split()]
+        told |= {tuple(words)} | ({tuple(words[:-1])} if line.endswith("]") else set())
+    cases.same("the forms of bin/vbm --help", forms | own_forms(), told)
 
 
 # ---- the completions
@@ -269,7 +291,8 @@ def main():
     forms = command_forms(definitions) | program_forms(definitions)
     cases.holds("the grammar is read", len(forms) > 8, forms)
     manual(cases, forms, definitions)
-    completions(cases, forms)
+    help_text(cases, forms)
+    completions(cases, forms | own_forms())
     examples(cases, forms)
     print("people: %d passed, %d failed" % (cases.passed, cases.failed))
     return 1 if cases.failed else 0
