@@ -133,7 +133,9 @@ kit_line() {
     echo "not proved and built yet"
   elif [ "$root/out/kit" -nt "$built" ]; then
     cat "$root/out/kit"
-  else
+  elif command -v rt >/dev/null; then
     rt version
+  else
+    echo "proved and built by a kit that is not here"
   fi
 }

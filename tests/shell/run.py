@@ -18,6 +18,7 @@ import time
 
 ROOT = os.path.dirname(os.path.dirname(os.path.dirname(os.path.abspath(__file__))))
 TOOLS = "bash cat chmod cmp cp env find flock grep mkdir mktemp mv readlink rm sed sh sha256sum sleep sort stat tail touch wc xargs".split()
+NOBODY = {"user": 65534} if os.geteuid() == 0 else {}
 KIT = b"kit-1 logic 0123456789abcdef\n"
 
 # A kit's command, which says a crate's name and builds what it was given as the program.
@@ -144,6 +145,8 @@ def dist(cases):
     cases.same("dist runs", (0, b"kept\n", b""), tree.run("x", lacks=["rt"]))
     cases.same("its kit", KIT, tree.run("--version", lacks=["rt"])[1].split(b"\n", 1)[1])
     cases.same("what was proved here runs where that is asked for", b"built\n", tree.run("x", VBM_PROVE="1")[1])
+    shutil.rmtree(tree.path("out"))
+    cases.same("where nothing can be written", b"kept\n", tree.run("x", lacks=["rt"], **NOBODY)[1])
     tree.write("dist/kit", "kit-2\n")
     cases.same("another kit's is not compared", 0, tree.run("--check", tool="tools/dist")[0])
     tree.write("crates/other/src/lib.rt", "// another crate\n")
@@ -325,13 +328,12 @@ def causes(cases, program):
     for name in ("link.vdi", inner):
         os.remove(os.path.join(tree.folder, name))
     os.rmdir(os.path.join(tree.folder, "folder.vdi"))
-    nobody = {"user": 65534} if os.geteuid() == 0 else {}
     os.chmod(os.path.join(tree.folder, "x.vdi"), 0)
     os.chmod(os.path.join(tree.folder, "library.vbm"), 0o444)
     os.chmod(tree.folder, 0o555)
     wanted = {"vbm: x.vdi can't be read", "vbm: library.vbm can't be written", "vbm: the folder %s can't be written" % tree.folder}
-    cases.holds("rights", wanted <= set(said(**nobody)), said(**nobody))
-    cases.same("rights of peek", ["vbm: x.vdi can't be read"], said("peek", "x.vdi", "0", **nobody))
+    cases.holds("rights", wanted <= set(said(**NOBODY)), said(**NOBODY))
+    cases.same("rights of peek", ["vbm: x.vdi can't be read"], said("peek", "x.vdi", "0", **NOBODY))
     os.chmod(tree.folder, 0o755)
     real = Tree(program)
     real.run("init")
