@@ -75,15 +75,15 @@ is_built() {
 
 # While this shell lives, writes over and over in one line which crate is being proved.
 show_progress() {
-  local start=$SECONDS name number
+  local start=$SECONDS name at number
   while kill -0 $$ 2>/dev/null; do
     name=$(grep -o 'chose --jobs [0-9]* for [a-z0-9_]*' "$1" 2>/dev/null | tail -n 1)
     name=${name##* }
+    at="reading the sources"
     for number in "${!crates[@]}"; do
-      if [ "${crates[number]}" = "$name" ]; then
-        printf '\r\033[Kvbm: proving %s, crate %d of %d, %d minutes so far' "$name" $((number + 1)) ${#crates[@]} $(((SECONDS - start) / 60)) >&2
-      fi
+      [ "${crates[number]}" != "$name" ] || at="proving $name, crate $((number + 1)) of ${#crates[@]}"
     done
+    printf '\r\033[Kvbm: %s, %d minutes so far' "$at" $(((SECONDS - start) / 60)) >&2
     sleep 1
   done
 }
