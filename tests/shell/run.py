@@ -334,6 +334,8 @@ def causes(cases, program):
     wanted = {"vbm: x.vdi can't be read", "vbm: library.vbm can't be written", "vbm: the folder %s can't be written" % tree.folder}
     cases.holds("rights", wanted <= set(said(**NOBODY)), said(**NOBODY))
     cases.same("rights of peek", ["vbm: x.vdi can't be read"], said("peek", "x.vdi", "0", **NOBODY))
+    os.chmod(tree.folder, 0o311)
+    cases.same("a folder that can't be read", ["vbm: the folder %s can't be read" % tree.folder], said("peek", "y.vdi", "0", **NOBODY))
     os.chmod(tree.folder, 0o755)
     real = Tree(program)
     real.run("init")
