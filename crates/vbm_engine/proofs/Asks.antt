@@ -11,7 +11,7 @@ use Rattle.vbm_registry.specs.declared.media.Medium.{Medium}
 use Rattle.vbm_registry.specs.Library.{medium_entry_name}
 use Rattle.vbm_registry.specs.Stands.{none_changed, medium_in, variant_of, world_with}
 use Rattle.vbm_registry.proofs.Worlds.{medium_of_with}
-use Rattle.vbm_world.specs.Names.{Name, find_by}
+use Rattle.vbm_named.specs.Names.{Name, find_by}
 use Rattle.vbm_world.specs.World.{World, medium_name, is_frozen}
 use Rattle.vbm_world.specs.Step.{step_of}
 use Rattle.vbm_world.specs.Loose.{Unsettled, unsettled_after, is_refused}
@@ -19,7 +19,7 @@ use Rattle.vbm_world.specs.declared.command.Answer.TheVariants.{Info, MediaList,
 use Rattle.vbm_world.specs.declared.command.Command.TheVariants.{ShowMediumInfo, ListHdds}
 use Rattle.vbm_world.specs.declared.command.Refusal.TheVariants.{NoSuchMedium}
 use Rattle.vbm_world.specs.declared.world.WorldMedium.{WorldMedium}
-use Rattle.vbm_world.proofs.Lists.{find_map}
+use Rattle.vbm_named.proofs.Lists.{find_map}
 use Rattle.vbm_engine.specs.declared.engine.Engine.{Engine}
 use Rattle.vbm_engine.specs.declared.engine.Image.{Image}
 use Rattle.vbm_engine.specs.Serves.{serves, image_name, image_in, Holds}

@@ -18,14 +18,14 @@ use Rattle.vbm_registry.specs.Stands.{none_changed, medium_in, shelf_of, shelved
 use Rattle.vbm_registry.proofs.Again.{read_again}
 use Rattle.vbm_registry.proofs.Stores.{SameBesides, same_others, header_frame, store_without, library_without}
 use Rattle.vbm_registry.proofs.Worlds.{medium_of_with, off_shelf, own_shelved, with_shelved_none, world_without}
-use Rattle.vbm_world.specs.Names.{Name, find_by, has_name, without}
+use Rattle.vbm_named.specs.Names.{Name, find_by, has_name, without}
 use Rattle.vbm_world.specs.World.{World, medium_name, with_shelved}
 use Rattle.vbm_world.specs.Step.{Outcome, shelved, step_of}
 use Rattle.vbm_world.specs.Loose.{all_settled, is_refused}
 use Rattle.vbm_world.specs.declared.command.Answer.TheVariants.{Done, Refused}
 use Rattle.vbm_world.specs.declared.command.Command.TheVariants.{CloseMedium}
 use Rattle.vbm_world.specs.declared.command.Refusal.TheVariants.{NoSuchMedium}
-use Rattle.vbm_world.proofs.Lists.{name_refl, name_sym, All-map, All-find, has_found, find_named, without_map}
+use Rattle.vbm_named.proofs.Lists.{name_refl, name_sym, All-map, All-find, has_found, find_named, without_map}
 use Rattle.vbm_engine.specs.declared.engine.Engine.{Engine}
 use Rattle.vbm_engine.specs.declared.engine.Image.{Image}
 use Rattle.vbm_engine.specs.declared.engine.Decided.TheVariants as decided

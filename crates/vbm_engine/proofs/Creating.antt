@@ -21,11 +21,11 @@ use Rattle.vbm_world.specs.declared.command.Command.TheVariants.{CreateMedium}
 use Rattle.vbm_world.specs.declared.command.Answer.{Answer}
 use Rattle.vbm_world.specs.declared.command.Answer.TheVariants.{Id}
 use Rattle.vbm_world.specs.declared.command.Size.{Size}
-use Rattle.vbm_world.specs.Names.{Name, has_name, put_by}
+use Rattle.vbm_named.specs.Names.{Name, has_name, put_by}
 use Rattle.vbm_world.specs.World.{World, medium_name, zero_disk}
 use Rattle.vbm_world.specs.Refusals.{capacity_of, is_bad_size, is_foreign, first_refusal, create_checks}
 use Rattle.vbm_world.specs.Step.{Outcome, step_of, made_medium, refused_or}
-use Rattle.vbm_world.proofs.Lists.{name_sym, put_map}
+use Rattle.vbm_named.proofs.Lists.{name_sym, put_map}
 use Rattle.vbm_registry.specs.declared.media.Medium.{Medium}
 use Rattle.vbm_registry.specs.declared.library.Library.{Library}
 use Rattle.vbm_registry.specs.Library.{library_name, medium_entry_name, IsLibrary}

@@ -14,9 +14,9 @@ use Rattle.vbm_intent.specs.Log.{IsShut, IsLikeRedone, RedoesTo}
 use Rattle.vbm_header.specs.declared.Header.{Header}
 use Rattle.vbm_header.specs.Header.{fields}
 use Rattle.vbm_volume.proofs.Likes.{image_fields}
-use Rattle.vbm_world.specs.Names.{Name}
+use Rattle.vbm_named.specs.Names.{Name}
 use Rattle.vbm_world.specs.Loose.{Unsettled}
-use Rattle.vbm_world.proofs.Lists.{name_sym}
+use Rattle.vbm_named.proofs.Lists.{name_sym}
 use Rattle.vbm_registry.specs.declared.media.Medium.{Medium}
 use Rattle.vbm_registry.specs.declared.library.Library.{Library}
 use Rattle.vbm_registry.specs.declared.fault.BadStore.{BadStore}

@@ -14,8 +14,8 @@ use Rattle.vbm_intent.specs.declared.change.Change.{Change}
 use Rattle.vbm_intent.specs.declared.change.Change.TheVariants.{Fill, Cut}
 use Rattle.vbm_intent.specs.Changes.{of_file, effect, after, changed, FitsFile, Fits}
 use Rattle.vbm_intent.proofs.Applying.{of_file-append, after-append}
-use Rattle.vbm_world.specs.Names.{Name}
-use Rattle.vbm_world.proofs.Lists.{name_refl}
+use Rattle.vbm_named.specs.Names.{Name}
+use Rattle.vbm_named.proofs.Lists.{name_refl}
 use Rattle.vbm_registry.specs.declared.library.Library.{Library}
 use Rattle.vbm_registry.specs.Library.{library_name, spelling}
 use Rattle.vbm_engine.specs.Plans.{library_changes, gap_changes, front_changes, image_changes}

@@ -2,7 +2,7 @@
 use Rattle.std.proofs.Common.{◌≡◌, ℕ, ◌+◌, ◌*◌, ◌^◌, ◌<◌, ◌≤◌, List, [], ◌∷◌, ◌++◌, length, Result, Ok, Err, OnOk, bytes_eq, refl, sym, ap, subst, ◌∙◌, arith, inl, inr, IsTrue}
 use Rattle.std.specs.List.{AllByRecursion}
 use Rattle.std.proofs.lemmas.List.{append_assoc}
-use Rattle.vbm_world.proofs.Lists.{name_refl}
+use Rattle.vbm_named.proofs.Lists.{name_refl}
 use Rattle.vbm_ports.specs.Names.{is_medium_name, is_inner_name, is_store_name, IsStoreName}
 use Rattle.vbm_intent.specs.declared.change.Change.{Change}
 use Rattle.vbm_intent.specs.declared.change.Change.TheVariants.{Write, Fill, Cut}

@@ -17,11 +17,11 @@ use Rattle.vbm_header.specs.Header.{fields}
 use Rattle.vbm_volume.specs.Image.{image_of}
 use Rattle.vbm_volume.specs.Like.{IsLikeFile}
 use Rattle.vbm_volume.proofs.Likes.{image_fields, like_refl, like_image, like_flat}
-use Rattle.vbm_world.specs.Names.{Name, find_by, has_name}
+use Rattle.vbm_named.specs.Names.{Name, find_by, has_name}
 use Rattle.vbm_world.specs.World.{medium_off, off}
 use Rattle.vbm_world.specs.Loose.{Unsettled, AreAlike, IsLikeMedium, IsLoosely}
 use Rattle.vbm_world.specs.declared.world.WorldMedium.{WorldMedium}
-use Rattle.vbm_world.proofs.Lists.{All-map, All-both, All-join, any_none, has_found, each_found}
+use Rattle.vbm_named.proofs.Lists.{All-map, All-both, All-join, any_none, has_found, each_found}
 use Rattle.vbm_world.proofs.Worlds.{loosely_refl, loosely_trans}
 use Rattle.vbm_registry.specs.declared.media.Medium.{Medium}
 use Rattle.vbm_registry.specs.declared.library.Library.{Library}

@@ -21,7 +21,7 @@ use Rattle.vbm_registry.specs.Stands.{none_changed, header_in, medium_in, id_in,
 use Rattle.vbm_registry.proofs.Again.{read_again}
 use Rattle.vbm_registry.proofs.Stores.{SameBesides, SameFiles, same_media, header_frame, header_of_file, own_of_file, store_put, library_put}
 use Rattle.vbm_registry.proofs.Worlds.{is_medium_with, has_id_with, on_shelf, shelved_of_file, medium_of_file, world_put}
-use Rattle.vbm_world.specs.Names.{Name, find_by, has_name, put_by}
+use Rattle.vbm_named.specs.Names.{Name, find_by, has_name, put_by}
 use Rattle.vbm_world.specs.World.{World, medium_name, with_shelved}
 use Rattle.vbm_world.specs.Refusals.{first_refusal, file_checks, is_foreign, has_id, is_full}
 use Rattle.vbm_world.specs.Step.{Outcome, refused_or, opened, step_of}
@@ -30,7 +30,7 @@ use Rattle.vbm_world.specs.declared.command.Answer.TheVariants.{Id, Refused}
 use Rattle.vbm_world.specs.declared.command.Command.TheVariants.{OpenMedium}
 use Rattle.vbm_world.specs.declared.command.Refusal.{Refusal}
 use Rattle.vbm_world.specs.declared.command.Refusal.TheVariants.{NameTaken, NoSuchFile, NotAnImage}
-use Rattle.vbm_world.proofs.Lists.{All-map, has_found, any_map, put_map}
+use Rattle.vbm_named.proofs.Lists.{All-map, has_found, any_map, put_map}
 use Rattle.vbm_engine.specs.declared.engine.Engine.{Engine}
 use Rattle.vbm_engine.specs.declared.engine.Image.{Image}
 use Rattle.vbm_engine.specs.declared.engine.Decided.TheVariants as decided

@@ -11,7 +11,7 @@ use Rattle.vbm_intent.specs.Changes.{log_name, changed}
 use Rattle.vbm_intent.specs.Log.{IsShutInAll, SameBesidesLog, RedoesTo, IsBeforeOrAfter, before, done}
 use Rattle.vbm_world.specs.declared.command.Command.{Command}
 use Rattle.vbm_world.specs.declared.command.Answer.{Answer}
-use Rattle.vbm_world.specs.Names.{Name}
+use Rattle.vbm_named.specs.Names.{Name}
 use Rattle.vbm_world.specs.World.{World, off}
 use Rattle.vbm_world.specs.Step.{Outcome, step_of}
 use Rattle.vbm_world.specs.Loose.{Unsettled, unsettled_after, IsLoosely}

@@ -12,7 +12,7 @@ use Rattle.vbm_world.specs.declared.command.Answer.TheVariants.{Id}
 use Rattle.vbm_world.specs.declared.command.Refusal.{Refusal}
 use Rattle.vbm_world.specs.declared.command.Refusal.TheVariants.{NameTaken, FileExists, BadSize, Full, IdsSpent}
 use Rattle.vbm_world.specs.declared.command.Which.TheVariants.{Media}
-use Rattle.vbm_world.specs.Names.{Name, has_name, put_by}
+use Rattle.vbm_named.specs.Names.{Name, has_name, put_by}
 use Rattle.vbm_world.specs.Refusals.{first_refusal, is_bad_size}
 use Rattle.vbm_registry.specs.declared.media.Medium.{Medium}
 use Rattle.vbm_registry.specs.declared.library.Library.{Library}

@@ -8,7 +8,7 @@ use Rattle.vbm_intent.specs.Changes.{log_name}
 use Rattle.vbm_intent.specs.Log.{IsShut}
 use Rattle.vbm_header.specs.declared.Header.{Header}
 use Rattle.vbm_volume.specs.Like.{IsLikeFile}
-use Rattle.vbm_world.specs.Names.{Name, has_name}
+use Rattle.vbm_named.specs.Names.{Name, has_name}
 use Rattle.vbm_registry.specs.declared.library.Library.{Library}
 use Rattle.vbm_registry.specs.Library.{library_name, medium_entry_name}
 use Rattle.vbm_registry.specs.Stands.{header_in, is_making}

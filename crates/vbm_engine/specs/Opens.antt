@@ -5,7 +5,7 @@ use Rattle.vbm_ports.specs.Disk.{DiskState}
 use Rattle.vbm_ports.specs.Crash.{Only}
 use Rattle.vbm_intent.specs.Changes.{log_name}
 use Rattle.vbm_intent.specs.Log.{Redo, RedoesTo, IsBadLog, IsShut, IsLikeRedone, SameBesidesLog}
-use Rattle.vbm_world.specs.Names.{Name}
+use Rattle.vbm_named.specs.Names.{Name}
 use Rattle.vbm_world.specs.World.{World}
 use Rattle.vbm_world.specs.Loose.{Unsettled}
 use Rattle.vbm_registry.specs.declared.library.Library.{Library}

@@ -7,7 +7,7 @@ use Rattle.vbm_volume.specs.Like.{map_end}
 use Rattle.vbm_intent.specs.declared.change.Change.{Change}
 use Rattle.vbm_intent.specs.declared.change.Change.TheVariants.{Write, Fill, Cut}
 use Rattle.vbm_intent.specs.Changes.{Touches, IsApart}
-use Rattle.vbm_world.specs.Names.{Name}
+use Rattle.vbm_named.specs.Names.{Name}
 use Rattle.vbm_registry.specs.declared.library.Library.{Library}
 use Rattle.vbm_registry.specs.Library.{library_name, spelling}
 

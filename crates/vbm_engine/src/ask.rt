@@ -15,7 +15,7 @@ use vbm_header::ImageType;
 use vbm_ports::{Names, NoMemory, Text};
 use vbm_registry::{Media, Medium};
 use vbm_volume::Variant;
-use vbm_world::names::find;
+use vbm_named::names::find;
 use vbm_world::{Answer, Refusal};
 
 fn variant_of(image_type: ImageType) -> Variant

@@ -4,7 +4,7 @@ ghost use Rattle.std.specs.Prelude.{◌≡◌, ◌++◌, IfOk, IsTrue};
 ghost use Rattle.vbm_ports.specs.Files.{Files};
 ghost use Rattle.vbm_ports.specs.Names.{is_medium_name};
 ghost use Rattle.vbm_registry.specs.Library.{medium_entry_name, without_entry, IsLibrary};
-ghost use Rattle.vbm_world.specs.Names.{has_name, without};
+ghost use Rattle.vbm_named.specs.Names.{has_name, without};
 ghost use Rattle.vbm_world.specs.declared.command.Command.TheVariants.{CloseMedium};
 ghost use Rattle.vbm_engine.specs.Closes.{removal};
 ghost use Rattle.vbm_engine.specs.Plans.{library_changes};
@@ -17,7 +17,7 @@ use std::alloc::Global;
 use vbm_intent::{Change, Plan};
 use vbm_ports::{NoMemory, Text};
 use vbm_registry::Library;
-use vbm_world::names::without;
+use vbm_named::names::without;
 use vbm_world::{Answer, Refusal};
 
 // Removes the file of a name, where it is asked for.

@@ -8,7 +8,7 @@ ghost use Rattle.vbm_header.specs.declared.ImageType.TheVariants.{Dynamic};
 ghost use Rattle.vbm_volume.specs.Made.{IsNewHeader};
 ghost use Rattle.vbm_volume.specs.declared.flat.Variant.TheVariants.{Standard};
 ghost use Rattle.vbm_world.specs.declared.command.Command.TheVariants as commands;
-ghost use Rattle.vbm_world.specs.Names.{has_name};
+ghost use Rattle.vbm_named.specs.Names.{has_name};
 ghost use Rattle.vbm_world.specs.Refusals.{capacity_of, is_bad_size, first_refusal, create_checks};
 ghost use Rattle.vbm_world.specs.Texts.{IsSpelled};
 ghost use Rattle.vbm_registry.specs.Library.{medium_entry_name, IsLibrary};

@@ -1,26 +1,25 @@
 //! The images of an engine, in the order of their names.
 
 ghost use Rattle.std.specs.Prelude.{◌≡◌, IfOk};
-ghost use Rattle.vbm_world.specs.Names.{put_by};
+ghost use Rattle.vbm_named.specs.Names.{put_by};
 ghost use Rattle.vbm_engine.specs.Serves.{image_name};
 
 use crate::engine::{Image, Images};
 use std::alloc::Global;
-use vbm_ports::NoMemory;
-use vbm_world::Duplicate;
-use vbm_world::names::{self, Named};
+use vbm_named::names::{self, Named};
+use vbm_ports::{Copied, NoMemory};
 
-impl Duplicate for Image {
-    fn duplicate(&self, alloc: Global) -> Result<Image, NoMemory> {
+impl Copied for Image {
+    fn copied(&self, alloc: Global) -> Result<Image, NoMemory> {
         Ok(Image {
-            name: self.name.duplicate(alloc)?,
+            name: self.name.copied(alloc)?,
             header: self.header,
         })
     }
 }
 
 impl Named for Image {
-    ghost named = { image_name };
+    ghost name_of = { image_name };
 
     fn name(&self) -> &[u8] {
         self.name.bytes()

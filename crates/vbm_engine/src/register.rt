@@ -8,7 +8,7 @@ ghost use Rattle.vbm_ports.specs.Disk.{OnlyReads};
 ghost use Rattle.vbm_ports.specs.Files.{Files};
 ghost use Rattle.vbm_ports.specs.Names.{is_medium_name};
 ghost use Rattle.vbm_registry.specs.Library.{medium_entry_name, with_entry, IsLibrary};
-ghost use Rattle.vbm_world.specs.Names.{has_name, put_by};
+ghost use Rattle.vbm_named.specs.Names.{has_name, put_by};
 ghost use Rattle.vbm_world.specs.Refusals.{first_refusal};
 ghost use Rattle.vbm_world.specs.declared.command.Command.TheVariants.{OpenMedium};
 ghost use Rattle.vbm_engine.specs.Images.{IsRead};

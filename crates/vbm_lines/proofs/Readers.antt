@@ -4,7 +4,7 @@ use Rattle.std.specs.Prelude.{nat_lt, if◌then◌else◌}
 use Rattle.std.proofs.Math.Seq.{take-add, take-append-add}
 use Rattle.std.proofs.lemmas.Bool.{cases_lt, cond-true, cond-false, lt-ltb, le-ltb, eqb-true}
 use Rattle.std.proofs.lemmas.List.{append-nil, take-append-drop, take_all, drop_all, take-take, drop-drop}
-use Rattle.vbm_world.specs.Lines.{Line as ReadLine, Short, TooLong, line_in, read_lines, AreWhole, HasNoNewline}
+use Rattle.vbm_lines.specs.Lines.{Line as ReadLine, Short, TooLong, line_in, read_lines, AreWhole, HasNoNewline}
 use Rattle.vbm_lines.specs.declared.reader.Next.{Next}
 use Rattle.vbm_lines.specs.declared.reader.Next.TheVariants.{Line, Long, End, ReadFault, Spent}
 use Rattle.vbm_lines.specs.Inputs.{AreFirst, AreRead, IsAllRead, IsCutOff, IsTooLong}

@@ -6,8 +6,7 @@ use Rattle.std.proofs.lemmas.List.{length-drop}
 use Rattle.std.proofs.lemmas.List.Sums.{prefix_len_stops}
 use Rattle.std.specs.List.{prefix_len}
 use Rattle.std.proofs.lemmas.Bool.{cases_Bool}
-use Rattle.vbm_world.specs.Texts.{Words}
-use Rattle.vbm_world.specs.Lines.{is_blank, words_in, before_first}
+use Rattle.vbm_lines.specs.Lines.{Words, is_blank, words_in, before_first}
 
 -- not a blank
 abbrev pub is_other : ℕ → Bool

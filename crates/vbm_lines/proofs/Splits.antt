@@ -5,7 +5,7 @@ use Rattle.std.specs.List.{list_any}
 use Rattle.std.proofs.lemmas.Bool.{or_parts, or_from, cond-true, cond-false, lt-ltb, le-ltb}
 use Rattle.std.proofs.lemmas.List.{append-nil, map-append}
 use Rattle.std.proofs.lemmas.List.Folds.{list_any-append}
-use Rattle.vbm_world.specs.Lines.{lines_of, before_first, begins_with, is_newline, Short, TooLong, line_in, read_lines, AreWhole, HasNoNewline}
+use Rattle.vbm_lines.specs.Lines.{lines_of, before_first, begins_with, is_newline, Short, TooLong, line_in, read_lines, AreWhole, HasNoNewline}
 use Rattle.vbm_lines.specs.Inputs.{AreFirst}
 use Rattle.vbm_lines.specs.Window.{without_return}
 

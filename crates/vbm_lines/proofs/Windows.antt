@@ -8,7 +8,7 @@ use Rattle.std.proofs.lemmas.List.{take-append-drop, drop_more, drop-append-le, 
 use Rattle.std.proofs.lemmas.List.Sums.{fails_before_first}
 use Rattle.std.proofs.lemmas.List.Quantifiers.{position-Some}
 use Rattle.std.proofs.lemmas.Slice.{between_is}
-use Rattle.vbm_world.specs.Lines.{is_newline, HasNoNewline}
+use Rattle.vbm_lines.specs.Lines.{is_newline, HasNoNewline}
 use Rattle.vbm_lines.specs.Window.{IsFirstNewline}
 use Rattle.vbm_lines.proofs.Splits.{no_newline-append}
 

@@ -1,6 +1,6 @@
 -- Lines that were read of an input, of which a source still has the rest. Only the first `most` bytes of it make lines.
 use Rattle.std.specs.Prelude.{◌≡◌, ℕ, ◌+◌, ◌<◌, ◌≤◌, List, [], ◌++◌, length, take, drop}
-use Rattle.vbm_world.specs.Lines.{Line, read_lines, AreEnded}
+use Rattle.vbm_lines.specs.Lines.{Line, read_lines, AreEnded}
 
 -- lines with which these begin
 abbrev pub AreFirst : List Line → List Line → Type 0

@@ -1,6 +1,6 @@
 -- A reader of lines, and how far it is in an input.
 use Rattle.std.specs.Prelude.{◌≡◌, ◌⊎◌, ℕ, ◌+◌, ◌-◌, ◌^◌, ◌<◌, ◌≤◌, min, Bool, true, false, if◌then◌else◌, List, [], ◌∷◌, ◌++◌, length, take, drop, IsTrue}
-use Rattle.vbm_world.specs.Lines.{Line as ReadLine, Short, TooLong, read_lines, AreWhole, HasNoNewline}
+use Rattle.vbm_lines.specs.Lines.{Line as ReadLine, Short, TooLong, read_lines, AreWhole, HasNoNewline}
 use Rattle.vbm_lines.specs.Inputs.{IsAllRead, IsCutOff, IsTooLong}
 use Rattle.vbm_lines.specs.declared.reader.Next.{Next}
 use Rattle.vbm_lines.specs.declared.reader.Next.TheVariants.{Line, Long, End, ReadFault, Spent}

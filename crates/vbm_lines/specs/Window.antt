@@ -1,6 +1,6 @@
 -- Bytes that are held, and what a take adds to them.
 use Rattle.std.specs.Prelude.{◌≡◌, ℕ, ◌+◌, ◌<◌, ◌≤◌, ◌==◌, if◌then◌else◌, List, [], ◌∷◌, ◌++◌, length, take, drop}
-use Rattle.vbm_world.specs.Lines.{HasNoNewline}
+use Rattle.vbm_lines.specs.Lines.{HasNoNewline}
 
 -- bytes in a room, and how many more there is space for behind them
 pub record Held : Type 0 where

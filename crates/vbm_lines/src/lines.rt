@@ -2,7 +2,7 @@
 
 ghost use Rattle.std.specs.Prelude.{◌≡◌, ◌≤◌, [], ◌∷◌, length, not, IfOk, MatchOption};
 ghost use Rattle.std.specs.List.{prefix_len};
-ghost use Rattle.vbm_world.specs.Lines.{is_blank, words_in};
+ghost use Rattle.vbm_lines.specs.Lines.{is_blank, words_in};
 
 use crate::Words;
 use std::alloc::Global;

@@ -3,7 +3,7 @@
 ghost use Rattle.std.specs.Prelude.{◌≡◌, ◌<◌, ◌≤◌, ◌+◌, ◌^◌, ℕ, List, length, take, IfOk, OnOk, OnErr, IsTrue, IsFalse};
 ghost use Rattle.std.specs.List.{list_any};
 ghost use Rattle.vbm_ports.specs.Counts.{Rose};
-ghost use Rattle.vbm_world.specs.Lines.{is_newline, HasNoNewline, Line};
+ghost use Rattle.vbm_lines.specs.Lines.{is_newline, HasNoNewline, Line};
 ghost use Rattle.vbm_lines.specs.Reader.{new_reader, IsAt, Gives, OnReadFault, OnText, OnLine, left_over};
 ghost use Rattle.vbm_lines.specs.Steps.{IsNext, counted_in, turns};
 ghost use Rattle.vbm_lines.specs.Window.{IsFirstNewline};

@@ -3,7 +3,7 @@
 ghost use Rattle.std.specs.Prelude.{◌≡◌, ◌<◌, ◌≤◌, ◌+◌, ◌-◌, ℕ, [], length, take, drop, IfOk, OnErr, MatchOption, IsTrue, ◌↔◌};
 ghost use Rattle.std.specs.List.{position};
 ghost use Rattle.vbm_ports.specs.Counts.{Rose};
-ghost use Rattle.vbm_world.specs.Lines.{is_newline, HasNoNewline};
+ghost use Rattle.vbm_lines.specs.Lines.{is_newline, HasNoNewline};
 ghost use Rattle.vbm_lines.specs.Window.{without_return, IsFirstNewline, Extends, Fills};
 
 use std::marker::Model;

@@ -1,7 +1,7 @@
 //! The worlds that the tests begin with, and how they run lines of words.
 
 ghost use Rattle.std.specs.Prelude.{◌≡◌, ◌≤◌, ◌^◌, IfOk};
-ghost use Rattle.vbm_world.specs.Names.{Rises};
+ghost use Rattle.vbm_named.specs.Names.{Rises};
 ghost use Rattle.vbm_world.specs.Seen.{seen, file_name};
 ghost use Rattle.vbm_world.specs.Sound.{IsSound, IsSoundFile};
 ghost use Rattle.vbm_world.specs.Texts.{IsSpelled};
@@ -177,7 +177,7 @@ pub(crate) struct Course {
 
 impl Model for Course {
     ghost use Rattle.vbm_world.specs.declared.world.World.{World as Shown};
-    ghost use Rattle.vbm_world.specs.Names.{Rises};
+    ghost use Rattle.vbm_named.specs.Names.{Rises};
     ghost use Rattle.vbm_world.specs.Seen.{seen, file_name};
     ghost use Rattle.vbm_world.specs.Sound.{IsSound};
 

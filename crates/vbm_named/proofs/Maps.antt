@@ -16,9 +16,9 @@ use Rattle.std.proofs.lemmas.Map.Text.{is_eq-slice_cmp}
 use Rattle.indexmap.specs.Calls.{IsSearchIndex}
 use Rattle.indexmap.specs.IndexMap.{insert_entry, move_index, index_before}
 use Rattle.indexmap.proofs.MoveLemmas.{push_moved}
-use Rattle.vbm_world.specs.Names.{Name, is_before, find_by, has_name, put_by, without, Rises}
+use Rattle.vbm_named.specs.Names.{Name, is_before, find_by, has_name, put_by, without, Rises}
 use Rattle.vbm_named.specs.Keyed.{AreKeyed}
-use Rattle.vbm_named.proofs.Order.{less_is, All-push}
+use Rattle.vbm_named.proofs.Lists.{less_is, All-push}
 
 abbrev order : Name → Name → Ordering
 order = slice_cmp nat_cmp

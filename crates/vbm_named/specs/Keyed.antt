@@ -1,7 +1,7 @@
 -- Maps by name.
 use Rattle.std.specs.Prelude.{◌≡◌, List}
 use Rattle.std.specs.List.{AllByRecursion}
-use Rattle.vbm_world.specs.Names.{Name}
+use Rattle.vbm_named.specs.Names.{Name}
 
 -- each item stands under its name
 abbrev pub AreKeyed : {K X : Type 0} → (K → Name) → (X → Name) → List (K × X) → Type 0

@@ -1,22 +1,14 @@
 //! Lists that are read by place and by name.
 
-ghost use Rattle.std.specs.Prelude.{◌≡◌, ◌<◌, ℕ, List, [], ◌∷◌, ◌++◌, length, IsFalse, OnOk, OnErr, Some, slice_get};
+ghost use Rattle.std.specs.Prelude.{◌≡◌, ◌<◌, [], ◌∷◌, ◌++◌, length, IsFalse, OnOk, OnErr, Some, slice_get};
 ghost use Rattle.std.specs.Option.{option_copied};
-ghost use Rattle.vbm_world.specs.Names.{find_by, has_name, put_by, without, Rises};
+ghost use Rattle.vbm_named.specs.Names.{find_by, has_name, put_by, without, Rises};
 
+use crate::names::Named;
 use indexmap::IndexMap;
 use std::alloc::Global;
 use std::marker::Model;
 use vbm_ports::{Copied, NoMemory};
-
-/// A type whose values have names.
-pub trait Named {
-    ghost name_of: { Self → List ℕ };
-
-    /// The name.
-    fn name(&self) -> &[u8]
-        ensures { result.now ≡ name_of self.now };
-}
 
 /// A list of items, no two of one name.
 #[derive(Drop)]

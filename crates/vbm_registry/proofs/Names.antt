@@ -1,8 +1,8 @@
 -- Lists whose names rise, from item to item.
 use Rattle.std.proofs.Common.{List, [], ◌∷◌, IsTrue}
 use Rattle.std.specs.List.{AllByRecursion}
-use Rattle.vbm_world.specs.Names.{Name, is_before, Rises}
-use Rattle.vbm_named.proofs.Order.{before_trans}
+use Rattle.vbm_named.specs.Names.{Name, is_before, Rises}
+use Rattle.vbm_named.proofs.Lists.{before_trans}
 use Rattle.vbm_registry.proofs.Items.{Linked}
 
 module _ {X : Type 0} (name_of : X → Name) where

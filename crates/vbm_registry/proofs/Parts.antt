@@ -8,7 +8,7 @@ use Rattle.std.proofs.lemmas.Bool.Decides.{nat_tests}
 use Rattle.vbm_ports.specs.Names.{is_medium_name}
 use Rattle.vbm_modes.specs.declared.Mode.{Mode}
 use Rattle.vbm_modes.specs.declared.Mode.TheVariants.{Normal}
-use Rattle.vbm_world.specs.Names.{Name, is_before, Rises}
+use Rattle.vbm_named.specs.Names.{Name, is_before, Rises}
 use Rattle.vbm_registry.specs.declared.media.Medium.{Medium}
 use Rattle.vbm_registry.specs.Library.{medium_entry_name, name_onto, medium_onto, mode_code, items_onto, list_onto, no_more, IsListed}
 use Rattle.vbm_registry.specs.Reading.{◌>>=◌, limited_at, seed_at, name_at, mode_at, medium_at, items_at, media_at, no_more_at}

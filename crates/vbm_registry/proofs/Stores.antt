@@ -16,10 +16,10 @@ use Rattle.vbm_ids.specs.declared.Kind.TheVariants.{Medium as Drawn, Modify, Inn
 use Rattle.vbm_ids.specs.Identifier.{number_in}
 use Rattle.vbm_intent.specs.Changes.{log_name}
 use Rattle.vbm_intent.specs.Log.{Redo, closed, pending, IsBadLog, IsOpen, IsShut, SameBesidesLog, RedoesTo, IsLikeRedone, redo_has_one_result}
-use Rattle.vbm_world.specs.Names.{Name, is_before, is_named, has_name, find_by, put_by, without, Rises}
+use Rattle.vbm_named.specs.Names.{Name, is_before, is_named, has_name, find_by, put_by, without, Rises}
 use Rattle.vbm_world.specs.World.{World}
 use Rattle.vbm_world.specs.Refusals.{is_foreign, is_not_below}
-use Rattle.vbm_world.proofs.Lists.{name_sym, All-map, All-every, All-both, none_of_any, has_found, All-put, rises_put, length-put, All-without, others-without, rises_without, length-without}
+use Rattle.vbm_named.proofs.Lists.{name_sym, All-map, All-every, All-both, none_of_any, has_found, All-put, rises_put, length-put, All-without, others-without, rises_without, length-without}
 use Rattle.vbm_registry.specs.declared.media.Medium.{Medium}
 use Rattle.vbm_registry.specs.declared.library.Library.{Library}
 use Rattle.vbm_registry.specs.declared.fault.BadStore.{BadStore}

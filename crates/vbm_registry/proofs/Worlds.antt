@@ -22,13 +22,13 @@ use Rattle.vbm_ids.specs.Identifier.{identifier_of, number_in, counted_in}
 use Rattle.vbm_ids.proofs.Identifiers.{number_in_of, identifier_of-same}
 use Rattle.vbm_world.specs.declared.world.WorldMedium.{WorldMedium}
 use Rattle.vbm_world.specs.declared.world.Shelved.{Shelved}
-use Rattle.vbm_world.specs.Names.{Name, find_by, has_name, put_by, without}
+use Rattle.vbm_named.specs.Names.{Name, find_by, has_name, put_by, without}
 use Rattle.vbm_world.specs.World.{World, medium_name, medium_of, is_frozen, with_shelved}
 use Rattle.vbm_world.specs.Refusals.{is_bad_size, is_foreign, is_medium, has_id}
 use Rattle.vbm_world.specs.Step.{shelved}
 use Rattle.vbm_world.specs.Sound.{IsSoundMedium, IsSized, IsSoundFile, IsSoundShelf, first_count, IsSound}
 use Rattle.vbm_world.proofs.Keeping.{not_frozen}
-use Rattle.vbm_world.proofs.Lists.{All-every, name_refl, name_sym, find_put_same, find_put_other, find_without_same, find_without_other, All-map, All-of_map, any_none, any_map, has_found, find_map, has_map, put_map, without_map, rises_map}
+use Rattle.vbm_named.proofs.Lists.{All-every, name_refl, name_sym, find_put_same, find_put_other, find_without_same, find_without_other, All-map, All-of_map, any_none, any_map, has_found, find_map, has_map, put_map, without_map, rises_map}
 use Rattle.vbm_registry.specs.declared.media.Medium.{Medium}
 use Rattle.vbm_registry.specs.declared.library.Library.{Library}
 use Rattle.vbm_registry.specs.Library.{medium_entry_name, with_entry, without_entry, IsListed, IsLibrary}

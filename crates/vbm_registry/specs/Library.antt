@@ -5,7 +5,7 @@ use Rattle.std.specs.Int.{Width, w8, w16, w64, to_le_bytes}
 use Rattle.vbm_ports.specs.Names.{is_medium_name}
 use Rattle.vbm_modes.specs.declared.Mode.{Mode}
 use Rattle.vbm_modes.specs.declared.Mode.TheVariants.{Normal, Immutable, Writethrough, MultiAttach, Readonly}
-use Rattle.vbm_world.specs.Names.{Name, Rises, put_by, without}
+use Rattle.vbm_named.specs.Names.{Name, Rises, put_by, without}
 use Rattle.vbm_registry.specs.declared.media.Medium.{Medium}
 use Rattle.vbm_registry.specs.declared.library.Library.{Library}
 

@@ -6,7 +6,7 @@ use Rattle.std.specs.List.{starts_with}
 use Rattle.vbm_ports.specs.Names.{is_medium_name}
 use Rattle.vbm_modes.specs.declared.Mode.{Mode}
 use Rattle.vbm_modes.specs.declared.Mode.TheVariants.{Normal}
-use Rattle.vbm_world.specs.Names.{Name, is_before}
+use Rattle.vbm_named.specs.Names.{Name, is_before}
 use Rattle.vbm_registry.specs.declared.media.Medium.{Medium}
 use Rattle.vbm_registry.specs.declared.library.Library.{Library}
 use Rattle.vbm_registry.specs.declared.reading.Stop.{Stop}

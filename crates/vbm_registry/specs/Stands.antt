@@ -19,7 +19,7 @@ use Rattle.vbm_world.specs.declared.world.WorldMedium.{WorldMedium}
 use Rattle.vbm_world.specs.declared.world.LinkFile.{LinkFile}
 use Rattle.vbm_world.specs.declared.world.Shelved.{Shelved}
 use Rattle.vbm_world.specs.declared.world.Shelved.TheVariants.{Volume, Link, Bad}
-use Rattle.vbm_world.specs.Names.{Name, has_name}
+use Rattle.vbm_named.specs.Names.{Name, has_name}
 use Rattle.vbm_world.specs.World.{World}
 use Rattle.vbm_world.specs.Refusals.{is_foreign}
 use Rattle.vbm_registry.specs.declared.media.Medium.{Medium}

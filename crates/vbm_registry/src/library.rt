@@ -1,7 +1,7 @@
 //! What a library lists.
 
 ghost use Rattle.std.specs.Prelude.{◌≡◌, IfOk, IsFalse};
-ghost use Rattle.vbm_world.specs.Names.{has_name};
+ghost use Rattle.vbm_named.specs.Names.{has_name};
 ghost use Rattle.vbm_registry.specs.Library.{IsLibrary, medium_entry_name, with_entry, without_entry};
 
 use crate::media::{Media, Medium};

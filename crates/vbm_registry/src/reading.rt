@@ -3,7 +3,7 @@
 ghost use Rattle.std.specs.Prelude.{◌≡◌, ◌≤◌, ◌^◌, length, [], IfOk, IsTrue, Ok};
 ghost use Rattle.std.specs.Int.{w8, w16, w64};
 ghost use Rattle.vbm_registry.specs.declared.reading.Stop.TheVariants.{NoMemory as OutOfMemory};
-ghost use Rattle.vbm_world.specs.Names.{is_before as before};
+ghost use Rattle.vbm_named.specs.Names.{is_before as before};
 ghost use Rattle.vbm_registry.specs.Library.{IsLibrary, spelling, medium_entry_name};
 ghost use Rattle.vbm_registry.specs.Reading.{Gives, number_at, limited_at, seed_at, name_at, mode_at, medium_at, items_at, media_at, no_more_at, fields_at, library_in, Decodes};
 

@@ -3,7 +3,8 @@ use Rattle.std.proofs.Common.{◌≡◌, ℕ, ◌<◌, ◌≤◌, List, [], ◌�
 use Rattle.std.specs.Result.{IsErrAnd}
 use Rattle.std.proofs.lemmas.Result.{err_from_is_err_and}
 use Rattle.vbm_world.specs.declared.command.Command.{Command}
-use Rattle.vbm_world.specs.Texts.{Words, IsSpelled, words_of}
+use Rattle.vbm_lines.specs.Lines.{Words}
+use Rattle.vbm_world.specs.Texts.{IsSpelled, words_of}
 use Rattle.vbm_script.specs.declared.parsing.ParseFault.{ParseFault}
 use Rattle.vbm_script.specs.declared.parsing.ParseFault.TheVariants.{NoMemory}
 use Rattle.vbm_script.specs.Parses.{IsParsed}

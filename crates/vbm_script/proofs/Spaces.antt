@@ -2,7 +2,8 @@
 use Rattle.std.proofs.Common.{◌≡◌, List, [], ◌∷◌, ◌++◌, ℕ, append-nil}
 use Rattle.std.proofs.lemmas.List.{append_assoc}
 use Rattle.std.specs.Prelude.{codes}
-use Rattle.vbm_world.specs.Texts.{Words, spaced}
+use Rattle.vbm_lines.specs.Lines.{Words}
+use Rattle.vbm_world.specs.Texts.{spaced}
 
 -- one more word at the end of a line
 pub grow : (words : Words) (word line : List ℕ) → (line ++ spaced words) ++ (codes " " ++ word) ≡ line ++ spaced (words ++ word ∷ [])

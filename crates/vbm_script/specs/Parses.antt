@@ -1,6 +1,7 @@
 -- What words are parsed to.
 use Rattle.std.specs.Prelude.{◌≡◌, ℕ, ◌^◌, ◌<◌, List, [], ◌∷◌, Result, Ok, Err}
-use Rattle.vbm_world.specs.Texts.{Words, IsCommand, IsNoCommand, size_words, size_number}
+use Rattle.vbm_lines.specs.Lines.{Words}
+use Rattle.vbm_world.specs.Texts.{IsCommand, IsNoCommand, size_words, size_number}
 use Rattle.vbm_world.specs.declared.command.Command.{Command}
 use Rattle.vbm_world.specs.declared.command.Size.{Size}
 use Rattle.vbm_script.specs.declared.parsing.ParseFault.{ParseFault}

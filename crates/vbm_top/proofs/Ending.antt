@@ -8,7 +8,7 @@ use Rattle.vbm_world.specs.declared.command.Command.{Command}
 use Rattle.vbm_world.specs.declared.command.Answer.{Answer}
 use Rattle.vbm_world.specs.World.{World, off}
 use Rattle.vbm_world.specs.Texts.{line_of}
-use Rattle.vbm_world.specs.Lines.{Line, Short, TooLong, words_in}
+use Rattle.vbm_lines.specs.Lines.{Line, Short, TooLong, words_in}
 use Rattle.vbm_world.specs.Loose.{Unsettled, all_settled}
 use Rattle.vbm_world.specs.Runs.{Runs, IsCommandLine}
 use Rattle.vbm_registry.specs.Stands.{Stands}

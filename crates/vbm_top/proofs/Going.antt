@@ -10,7 +10,7 @@ use Rattle.vbm_world.specs.declared.command.Answer.{Answer}
 use Rattle.vbm_world.specs.World.{World, off}
 use Rattle.vbm_world.specs.Step.{Outcome, step_of}
 use Rattle.vbm_world.specs.Texts.{line_of}
-use Rattle.vbm_world.specs.Lines.{Line, read_lines}
+use Rattle.vbm_lines.specs.Lines.{Line, read_lines}
 use Rattle.vbm_world.specs.Loose.{Unsettled, all_settled, is_refused}
 use Rattle.vbm_world.specs.Runs.{Does, skips, refuses, steps, Runs}
 use Rattle.vbm_lines.specs.Inputs.{AreFirst, AreRead}

@@ -7,7 +7,7 @@ use Rattle.vbm_world.specs.declared.command.Answer.TheVariants.{Refused}
 use Rattle.vbm_world.specs.declared.command.Refusal.TheVariants.{BadLine}
 use Rattle.vbm_world.specs.Step.{Outcome}
 use Rattle.vbm_world.specs.Texts.{line_of}
-use Rattle.vbm_world.specs.Lines.{Line}
+use Rattle.vbm_lines.specs.Lines.{Line}
 use Rattle.vbm_world.specs.Loose.{Unsettled, unsettled_after}
 use Rattle.vbm_world.specs.Runs.{refuses, steps, IsCommandLine, IsBadLine}
 use Rattle.vbm_lines.specs.declared.reader.Next.{Next}

@@ -8,7 +8,7 @@ use Rattle.vbm_world.specs.declared.command.Command.{Command}
 use Rattle.vbm_world.specs.declared.command.Answer.{Answer}
 use Rattle.vbm_world.specs.World.{World, off}
 use Rattle.vbm_world.specs.Texts.{line_of}
-use Rattle.vbm_world.specs.Lines.{Line, read_lines}
+use Rattle.vbm_lines.specs.Lines.{Line, read_lines}
 use Rattle.vbm_world.specs.Loose.{Unsettled, all_settled, is_refused}
 use Rattle.vbm_world.specs.Runs.{IsCommandLine, Runs}
 use Rattle.vbm_lines.specs.Inputs.{AreFirst, AreRead, IsAllRead, IsCutOff, IsTooLong}

@@ -6,7 +6,7 @@ use Rattle.vbm_world.specs.declared.command.Command.{Command}
 use Rattle.vbm_world.specs.declared.command.Answer.{Answer}
 use Rattle.vbm_world.specs.World.{World, off}
 use Rattle.vbm_world.specs.Texts.{IsSpelled, line_of}
-use Rattle.vbm_world.specs.Lines.{Line, is_skipped}
+use Rattle.vbm_lines.specs.Lines.{Line, is_skipped}
 use Rattle.vbm_world.specs.Loose.{Unsettled}
 use Rattle.vbm_world.specs.Runs.{IsCommandLine, IsBadLine, Does}
 use Rattle.vbm_lines.specs.Inputs.{AreRead, IsAllRead, IsCutOff, IsTooLong}

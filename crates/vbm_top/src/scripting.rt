@@ -4,7 +4,7 @@ ghost use Rattle.std.specs.Prelude.{◌≡◌, ◌≢◌, ◌≤◌, ◌<◌, �
 ghost use Rattle.vbm_ports.specs.Counts.{Rose};
 ghost use Rattle.vbm_ports.specs.Files.{Files};
 ghost use Rattle.vbm_world.specs.Loose.{Unsettled};
-ghost use Rattle.vbm_world.specs.Lines.{Line};
+ghost use Rattle.vbm_lines.specs.Lines.{Line};
 ghost use Rattle.vbm_registry.specs.Stands.{Stands};
 ghost use Rattle.vbm_engine.specs.Serves.{serves, IsSoundEngine, IsReady};
 ghost use Rattle.vbm_lines.specs.Reader.{IsAt, left_over};

@@ -6,7 +6,7 @@ ghost use Rattle.vbm_ports.specs.Disk.{Passes, OnlyReads};
 ghost use Rattle.vbm_world.specs.World.{off};
 ghost use Rattle.vbm_world.specs.Loose.{Unsettled};
 ghost use Rattle.vbm_world.specs.Texts.{IsSpelled};
-ghost use Rattle.vbm_world.specs.Lines.{Line, Short, says_nothing};
+ghost use Rattle.vbm_lines.specs.Lines.{Line, Short, says_nothing};
 ghost use Rattle.vbm_engine.specs.Serves.{serves, IsSoundEngine, FitsDisk, IsReady, StandsLoosely};
 ghost use Rattle.vbm_engine.specs.Steps.{IsInStep};
 ghost use Rattle.vbm_top.specs.Run.{Closes};

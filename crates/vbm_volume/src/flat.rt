@@ -6,7 +6,7 @@ use std::alloc::Global;
 use std::marker::Model;
 use uuid::Uuid;
 use vbm_header::ImageType;
-use vbm_ports::NoMemory;
+use vbm_ports::{Copied, NoMemory};
 
 /// The bytes of a sector.
 pub type Sector = [u8; 512];
@@ -59,16 +59,6 @@ impl Flat {
         }
     }
 
-    /// A copy of a disk.
-    pub fn copy(&self, alloc: Global) -> Result<Flat, NoMemory>
-        ensures { IfOk result (λ copy. copy ≡ self.now) }
-    {
-        match Vec::from_slice(alloc, &self.sectors) {
-            Ok(sectors) => Ok(Flat { sectors }),
-            Err(_) => Err(NoMemory),
-        }
-    }
-
     /// How many sectors the disk has.
     pub fn len(&self) -> u64
         ensures { result ≡ length self.now }
@@ -110,4 +100,25 @@ pub struct Volume {
     /// In bytes.
     pub capacity: u64,
     pub flat: Flat,
+}
+
+impl Copied for Flat {
+    fn copied(&self, alloc: Global) -> Result<Flat, NoMemory> {
+        match Vec::from_slice(alloc, &self.sectors) {
+            Ok(sectors) => Ok(Flat { sectors }),
+            Err(_) => Err(NoMemory),
+        }
+    }
+}
+
+impl Copied for Volume {
+    fn copied(&self, alloc: Global) -> Result<Volume, NoMemory> {
+        Ok(Volume {
+            id: self.id,
+            modify: self.modify,
+            variant: self.variant,
+            capacity: self.capacity,
+            flat: self.flat.copied(alloc)?,
+        })
+    }
 }

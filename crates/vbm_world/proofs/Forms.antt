@@ -7,7 +7,8 @@ use Rattle.vbm_world.specs.declared.command.Command.{Command}
 use Rattle.vbm_world.specs.declared.command.Command.TheVariants.{CreateMedium, OpenMedium, CloseMedium, ShowMediumInfo, ListHdds}
 use Rattle.vbm_world.specs.declared.command.Size.{Size}
 use Rattle.vbm_world.specs.declared.command.Size.TheVariants.{Mb, Bytes}
-use Rattle.vbm_world.specs.Texts.{Words, words_of, size_words, variant_words, delete_words, size_number, IsSpelled, IsCommand}
+use Rattle.vbm_lines.specs.Lines.{Words}
+use Rattle.vbm_world.specs.Texts.{words_of, size_words, variant_words, delete_words, size_number, IsSpelled, IsCommand}
 
 abbrev first_word : Words → List ℕ
 first_word [] = []

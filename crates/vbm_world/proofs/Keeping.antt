@@ -19,13 +19,13 @@ use Rattle.vbm_world.specs.declared.world.WorldSnapshot.{WorldSnapshot}
 use Rattle.vbm_world.specs.declared.world.WorldMachine.{WorldMachine}
 use Rattle.vbm_world.specs.declared.world.Shelved.{Shelved}
 use Rattle.vbm_world.specs.declared.world.Shelved.TheVariants.{Volume, Link, Bad}
-use Rattle.vbm_world.specs.Names.{Name, find_by, has_name, put_by, without}
+use Rattle.vbm_named.specs.Names.{Name, find_by, has_name, put_by, without}
 use Rattle.vbm_world.specs.World.{World, medium_name, medium_of, snapshot_name, has_medium, is_in_snapshot, is_in_use, is_normal, zero_disk, with_shelved}
 use Rattle.vbm_world.specs.Refusals.{Check, first_refusal, capacity_of, is_bad_size, is_full, create_checks, open_checks, file_checks, close_checks}
 use Rattle.vbm_world.specs.Step.{Outcome, refused, refused_or, unless_refused, found_or, made_medium, opened_medium, opened, shelved, step_of}
 use Rattle.vbm_world.specs.Texts.{IsSpelled}
 use Rattle.vbm_world.specs.Sound.{HasCapacity, IsSoundMedium, IsSoundSlot, IsPlaced, AreSoundSlots, slots_of, slots_named, is_some_normal, is_of_normal, IsSoundMachine, IsSoundShelf, IsSound}
-use Rattle.vbm_world.proofs.Lists.{name_refl, name_sym, All-map, All-join, any_none, none_of_any, All-find, All-put, find_put_other, rises_put, length-put, All-without, others-without, find_without_other, rises_without, length-without}
+use Rattle.vbm_named.proofs.Lists.{name_refl, name_sym, All-map, All-join, any_none, none_of_any, All-find, All-put, find_put_other, rises_put, length-put, All-without, others-without, find_without_other, rises_without, length-without}
 
 -- ---- outcomes
 

@@ -1,4 +1,3 @@
-pub mod Lists
 pub mod Keeping
 pub mod Forms
 pub mod Worlds

@@ -9,13 +9,13 @@ use Rattle.vbm_world.specs.declared.world.WorldMedium.{WorldMedium}
 use Rattle.vbm_world.specs.declared.world.World.{World as Shown}
 use Rattle.vbm_world.specs.declared.command.Command.{Command}
 use Rattle.vbm_world.specs.declared.command.Answer.{Answer}
-use Rattle.vbm_world.specs.Names.{Name, find_by, put_by, without, Rises}
+use Rattle.vbm_named.specs.Names.{Name, find_by, put_by, without, Rises}
 use Rattle.vbm_world.specs.World.{World, medium_name, medium_of, with_shelved}
 use Rattle.vbm_world.specs.Step.{Outcome, step_of}
 use Rattle.vbm_world.specs.Texts.{IsSpelled}
 use Rattle.vbm_world.specs.Seen.{file_name, content_of, on_shelf, seen, outcome_of}
 use Rattle.vbm_world.specs.Sound.{IsSound, IsSoundShelf}
-use Rattle.vbm_world.proofs.Lists.{name_sym, has_found, find_put_same, find_put_other, rises_put, find_without_same, find_without_other}
+use Rattle.vbm_named.proofs.Lists.{name_sym, has_found, find_put_same, find_put_other, rises_put, find_without_same, find_without_other}
 use Rattle.vbm_world.proofs.Keeping.{step_keeps}
 
 -- ---- shelves

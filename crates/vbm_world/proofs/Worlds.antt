@@ -14,12 +14,12 @@ use Rattle.vbm_world.specs.declared.command.Command.TheVariants.{CreateMedium}
 use Rattle.vbm_world.specs.declared.world.WorldMedium.{WorldMedium}
 use Rattle.vbm_world.specs.declared.world.WorldSlot.{WorldSlot}
 use Rattle.vbm_world.specs.declared.world.WorldMachine.{WorldMachine}
-use Rattle.vbm_world.specs.Names.{Name}
+use Rattle.vbm_named.specs.Names.{Name}
 use Rattle.vbm_world.specs.World.{World, medium_name, machine_name, is_in_snapshot, is_frozen, medium_off, machine_off, off}
 use Rattle.vbm_world.specs.Step.{step_of}
 use Rattle.vbm_world.specs.Loose.{Unsettled, all_settled, is_refused, is_direct, loose_of_medium, IsLikeDisk, AreAlike, IsLikeMedium, IsLikeSlot, IsLikeMachine, IsLoosely}
 use Rattle.vbm_world.specs.Sound.{IsSoundMachine, first_count, IsSound}
-use Rattle.vbm_world.proofs.Lists.{All-every, All-map, All-of_map, any_none, any_map, find_map, has_map, rises_map}
+use Rattle.vbm_named.proofs.Lists.{All-every, All-map, All-of_map, any_none, any_map, find_map, has_map, rises_map}
 use Rattle.vbm_world.proofs.Keeping.{kind_of, Agree, EachSlot, machine_kept, shelf_kept}
 
 -- ---- the number of a step

@@ -1,10 +1,8 @@
-pub mod Names
 pub mod World
 pub mod Places
 pub mod Refusals
 pub mod Step
 pub mod Texts
-pub mod Lines
 pub mod Runs
 pub mod Loose
 pub mod Sound

@@ -12,7 +12,7 @@ use Rattle.vbm_world.specs.declared.command.Answer.TheVariants.{Done, Id, Info, 
 use Rattle.vbm_world.specs.declared.world.WorldMedium.{WorldMedium}
 use Rattle.vbm_world.specs.declared.world.WorldSlot.{WorldSlot}
 use Rattle.vbm_world.specs.declared.world.WorldMachine.{WorldMachine}
-use Rattle.vbm_world.specs.Names.{Name}
+use Rattle.vbm_named.specs.Names.{Name}
 use Rattle.vbm_world.specs.World.{World}
 use Rattle.vbm_world.specs.Step.{step_of}
 

@@ -7,7 +7,7 @@ use Rattle.vbm_world.specs.declared.world.WorldMedium.{WorldMedium}
 use Rattle.vbm_world.specs.declared.world.WorldSlot.{WorldSlot}
 use Rattle.vbm_world.specs.declared.world.WorldSnapshot.{WorldSnapshot}
 use Rattle.vbm_world.specs.declared.world.WorldMachine.{WorldMachine}
-use Rattle.vbm_world.specs.Names.{Name, find_by}
+use Rattle.vbm_named.specs.Names.{Name, find_by}
 use Rattle.vbm_world.specs.World.{World, machine_name, snapshot_name, medium_of}
 
 abbrev pub machine_of : World → Name → Option WorldMachine

@@ -13,7 +13,7 @@ use Rattle.vbm_world.specs.declared.command.Size.TheVariants.{Mb, Bytes}
 use Rattle.vbm_world.specs.declared.world.WorldMedium.{WorldMedium}
 use Rattle.vbm_world.specs.declared.world.Shelved.{Shelved}
 use Rattle.vbm_world.specs.declared.world.Shelved.TheVariants.{Volume, Link, Bad}
-use Rattle.vbm_world.specs.Names.{Name}
+use Rattle.vbm_named.specs.Names.{Name}
 use Rattle.vbm_world.specs.World.{World, medium_of, is_in_use}
 
 -- a condition, and the refusal that comes where it holds

@@ -8,7 +8,7 @@ use Rattle.vbm_world.specs.World.{World}
 use Rattle.vbm_world.specs.Step.{step_of}
 use Rattle.vbm_world.specs.Texts.{IsCommand, IsNoCommand}
 use Rattle.vbm_world.specs.Loose.{Unsettled, unsettled_after}
-use Rattle.vbm_world.specs.Lines.{Line, Short, TooLong, words_in, says_nothing, is_skipped}
+use Rattle.vbm_lines.specs.Lines.{Line, Short, TooLong, words_in, says_nothing, is_skipped}
 
 -- a line is this command
 abbrev pub IsCommandLine : Line → Command → Type 0

@@ -4,7 +4,7 @@ use Rattle.std.specs.Option.{option_map}
 use Rattle.vbm_world.specs.declared.world.World.{World as Shown}
 use Rattle.vbm_world.specs.declared.world.ShelfFile.{ShelfFile}
 use Rattle.vbm_world.specs.declared.world.Shelved.{Shelved}
-use Rattle.vbm_world.specs.Names.{Name, find_by}
+use Rattle.vbm_named.specs.Names.{Name, find_by}
 use Rattle.vbm_world.specs.World.{World}
 use Rattle.vbm_world.specs.declared.command.Answer.{Answer}
 use Rattle.vbm_world.specs.Step.{Outcome}

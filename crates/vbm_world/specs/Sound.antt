@@ -12,7 +12,7 @@ use Rattle.vbm_world.specs.declared.world.WorldSnapshot.{WorldSnapshot}
 use Rattle.vbm_world.specs.declared.world.WorldMachine.{WorldMachine}
 use Rattle.vbm_world.specs.declared.world.Shelved.{Shelved}
 use Rattle.vbm_world.specs.declared.world.Shelved.TheVariants.{Volume, Link, Bad}
-use Rattle.vbm_world.specs.Names.{Name, find_by, has_name, Rises}
+use Rattle.vbm_named.specs.Names.{Name, find_by, has_name, Rises}
 use Rattle.vbm_world.specs.World.{World, medium_name, machine_name, snapshot_name, has_medium, is_normal, is_frozen}
 use Rattle.vbm_world.specs.Loose.{is_direct}
 use Rattle.vbm_world.specs.Refusals.{is_bad_size}

@@ -15,7 +15,7 @@ use Rattle.vbm_world.specs.declared.command.Refusal.TheVariants.{NoSuchMedium}
 use Rattle.vbm_world.specs.declared.world.WorldMedium.{WorldMedium}
 use Rattle.vbm_world.specs.declared.world.Shelved.{Shelved}
 use Rattle.vbm_world.specs.declared.world.Shelved.TheVariants.{Volume, Link, Bad}
-use Rattle.vbm_world.specs.Names.{Name, put_by, without}
+use Rattle.vbm_named.specs.Names.{Name, put_by, without}
 use Rattle.vbm_world.specs.World.{World, medium_name, medium_of, is_frozen, zero_disk, with_shelved}
 use Rattle.vbm_world.specs.Refusals.{Check, first_refusal, capacity_of, create_checks, open_checks, close_checks}
 

@@ -3,6 +3,7 @@ use Rattle.std.specs.Prelude.{◌≡◌, ℕ, ◌^◌, ◌<◌, List, [], ◌∷
 use Rattle.uuid.specs.Text.{hyphenated_text, lower}
 use Rattle.hex.specs.Hex.{encode_lower}
 use Rattle.vbm_ports.specs.Names.{is_medium_name}
+use Rattle.vbm_lines.specs.Lines.{Words}
 use Rattle.vbm_modes.specs.declared.Mode.{Mode}
 use Rattle.vbm_modes.specs.declared.Mode.TheVariants.{Normal, Immutable, Writethrough, MultiAttach, Readonly}
 use Rattle.vbm_volume.specs.declared.flat.Variant.{Variant}
@@ -19,9 +20,6 @@ use Rattle.vbm_world.specs.declared.command.Answer.{Answer}
 use Rattle.vbm_world.specs.declared.command.Answer.TheVariants.{Done, Id, Info, Count, MediaList, VmList, SnapList, Sectors, Refused}
 use Rattle.vbm_world.specs.declared.command.Refusal.{Refusal}
 use Rattle.vbm_world.specs.declared.command.Refusal.TheVariants.{BadLine, NoSuchMedium, NoSuchMachine, NoSuchSnapshot, NoSuchSlot, NameTaken, FileExists, NoSuchFile, NotAnImage, DuplicateId, ForeignId, InUse, Frozen, Running, NotRunning, Locked, SharedMedium, SlotTaken, AlreadyAttached, OutOfRange, WriteProtected, HasChildren, Shrinks, BadSize, WrongKind, Full, IdsSpent, BrokenChain, TooSmall, NoCurrent}
-
-abbrev pub Words : Type 0
-Words = List (List ℕ)
 
 -- ---- the words of a command (VBoxManage: createmedium, openmedium, closemedium, showmediuminfo, list hdds)
 

@@ -10,7 +10,7 @@ use Rattle.vbm_world.specs.declared.world.WorldSlot.{WorldSlot}
 use Rattle.vbm_world.specs.declared.world.WorldSnapshot.{WorldSnapshot}
 use Rattle.vbm_world.specs.declared.world.WorldMachine.{WorldMachine}
 use Rattle.vbm_world.specs.declared.world.Shelved.{Shelved}
-use Rattle.vbm_world.specs.Names.{Name, find_by}
+use Rattle.vbm_named.specs.Names.{Name, find_by}
 
 pub record World : Type 0 where
   -- the seed of the identifiers, 16 bytes

@@ -1,159 +1,100 @@
 //! Copies of all that a world holds.
 
-ghost use Rattle.std.specs.Prelude.{◌≡◌, IfOk};
-
 use crate::world::{
     LinkFile, ShelfFile, Shelved, World, WorldMachine, WorldMedium, WorldSlot, WorldSnapshot,
 };
 use std::alloc::Global;
-use vbm_ports::{NoMemory, Sequence, Text};
-use vbm_volume::{Flat, Sector, Volume};
+use vbm_ports::{Copied, NoMemory};
 
-/// What can be copied where there is memory.
-pub trait Duplicate: Drop {
-    /// A copy, the same in all.
-    fn duplicate(&self, alloc: Global) -> Result<Self, NoMemory>
-        ensures { IfOk result (λ copy. copy ≡ self.now) };
-}
-
-impl Duplicate for Sector {
-    fn duplicate(&self, _alloc: Global) -> Result<Sector, NoMemory> {
-        Ok(*self)
-    }
-}
-
-impl Duplicate for Text {
-    fn duplicate(&self, alloc: Global) -> Result<Text, NoMemory> {
-        Text::new(alloc, self.bytes())
-    }
-}
-
-impl Duplicate for Flat {
-    fn duplicate(&self, alloc: Global) -> Result<Flat, NoMemory> {
-        self.copy(alloc)
-    }
-}
-
-impl<T: Duplicate> Duplicate for Option<T> {
-    fn duplicate(&self, alloc: Global) -> Result<Option<T>, NoMemory> {
-        match self {
-            Some(item) => Ok(Some(item.duplicate(alloc)?)),
-            None => Ok(None),
-        }
-    }
-}
-
-impl<T: Duplicate> Duplicate for Sequence<T> {
-    fn duplicate(&self, alloc: Global) -> Result<Sequence<T>, NoMemory> {
-        let mut copy = Sequence::new(alloc);
-        for item in self.as_slice() {
-            copy.push(item.duplicate(alloc)?)?;
-        }
-        Ok(copy)
-    }
-}
-
-impl Duplicate for WorldSlot {
-    fn duplicate(&self, alloc: Global) -> Result<WorldSlot, NoMemory> {
+impl Copied for WorldSlot {
+    fn copied(&self, alloc: Global) -> Result<WorldSlot, NoMemory> {
         Ok(WorldSlot {
             port: self.port,
-            medium: self.medium.duplicate(alloc)?,
+            medium: self.medium.copied(alloc)?,
             autoreset: self.autoreset,
-            own: self.own.duplicate(alloc)?,
+            own: Copied::copied(&self.own, alloc)?,
         })
     }
 }
 
-impl Duplicate for WorldSnapshot {
-    fn duplicate(&self, alloc: Global) -> Result<WorldSnapshot, NoMemory> {
+impl Copied for WorldSnapshot {
+    fn copied(&self, alloc: Global) -> Result<WorldSnapshot, NoMemory> {
         Ok(WorldSnapshot {
-            name: self.name.duplicate(alloc)?,
-            parent: self.parent.duplicate(alloc)?,
-            slots: self.slots.duplicate(alloc)?,
+            name: self.name.copied(alloc)?,
+            parent: Copied::copied(&self.parent, alloc)?,
+            slots: self.slots.copied(alloc)?,
         })
     }
 }
 
-impl Duplicate for WorldMachine {
-    fn duplicate(&self, alloc: Global) -> Result<WorldMachine, NoMemory> {
+impl Copied for WorldMachine {
+    fn copied(&self, alloc: Global) -> Result<WorldMachine, NoMemory> {
         Ok(WorldMachine {
-            name: self.name.duplicate(alloc)?,
+            name: self.name.copied(alloc)?,
             running: self.running,
-            slots: self.slots.duplicate(alloc)?,
-            snapshots: self.snapshots.duplicate(alloc)?,
-            current: self.current.duplicate(alloc)?,
+            slots: self.slots.copied(alloc)?,
+            snapshots: self.snapshots.copied(alloc)?,
+            current: Copied::copied(&self.current, alloc)?,
         })
     }
 }
 
-impl Duplicate for WorldMedium {
-    fn duplicate(&self, alloc: Global) -> Result<WorldMedium, NoMemory> {
+impl Copied for WorldMedium {
+    fn copied(&self, alloc: Global) -> Result<WorldMedium, NoMemory> {
         Ok(WorldMedium {
-            name: self.name.duplicate(alloc)?,
+            name: self.name.copied(alloc)?,
             id: self.id,
             modify: self.modify,
             changed: self.changed,
             mode: self.mode,
             variant: self.variant,
             capacity: self.capacity,
-            flat: self.flat.duplicate(alloc)?,
+            flat: Copied::copied(&self.flat, alloc)?,
         })
     }
 }
 
-impl Duplicate for Volume {
-    fn duplicate(&self, alloc: Global) -> Result<Volume, NoMemory> {
-        Ok(Volume {
-            id: self.id,
-            modify: self.modify,
-            variant: self.variant,
-            capacity: self.capacity,
-            flat: self.flat.duplicate(alloc)?,
-        })
-    }
-}
-
-impl Duplicate for LinkFile {
-    fn duplicate(&self, alloc: Global) -> Result<LinkFile, NoMemory> {
+impl Copied for LinkFile {
+    fn copied(&self, alloc: Global) -> Result<LinkFile, NoMemory> {
         Ok(LinkFile {
             id: self.id,
             modify: self.modify,
             link: self.link,
             parent_modify: self.parent_modify,
             capacity: self.capacity,
-            sectors: self.sectors.duplicate(alloc)?,
+            sectors: self.sectors.copied(alloc)?,
         })
     }
 }
 
-impl Duplicate for Shelved {
-    fn duplicate(&self, alloc: Global) -> Result<Shelved, NoMemory> {
+impl Copied for Shelved {
+    fn copied(&self, alloc: Global) -> Result<Shelved, NoMemory> {
         match self {
-            Shelved::Volume(volume) => Ok(Shelved::Volume(volume.duplicate(alloc)?)),
-            Shelved::Link(link) => Ok(Shelved::Link(link.duplicate(alloc)?)),
+            Shelved::Volume(volume) => Ok(Shelved::Volume(volume.copied(alloc)?)),
+            Shelved::Link(link) => Ok(Shelved::Link(link.copied(alloc)?)),
             Shelved::Bad(condition) => Ok(Shelved::Bad(*condition)),
         }
     }
 }
 
-impl Duplicate for ShelfFile {
-    fn duplicate(&self, alloc: Global) -> Result<ShelfFile, NoMemory> {
+impl Copied for ShelfFile {
+    fn copied(&self, alloc: Global) -> Result<ShelfFile, NoMemory> {
         Ok(ShelfFile {
-            name: self.name.duplicate(alloc)?,
-            content: self.content.duplicate(alloc)?,
+            name: self.name.copied(alloc)?,
+            content: self.content.copied(alloc)?,
         })
     }
 }
 
-impl Duplicate for World {
-    fn duplicate(&self, alloc: Global) -> Result<World, NoMemory> {
+impl Copied for World {
+    fn copied(&self, alloc: Global) -> Result<World, NoMemory> {
         Ok(World {
             seed: self.seed,
             next: self.next,
             inner: self.inner,
-            media: self.media.duplicate(alloc)?,
-            machines: self.machines.duplicate(alloc)?,
-            shelf: self.shelf.duplicate(alloc)?,
+            media: self.media.copied(alloc)?,
+            machines: self.machines.copied(alloc)?,
+            shelf: self.shelf.copied(alloc)?,
         })
     }
 }

@@ -4,7 +4,6 @@
 mod command;
 mod copy;
 mod media;
-pub mod names;
 mod refusals;
 mod shelf;
 mod step;
@@ -13,7 +12,6 @@ mod world;
 pub use command::{
     Answer, Command, PlaceName, Refusal, Size, SnapLine, SnapLines, VmLine, VmLines, Which,
 };
-pub use copy::Duplicate;
 pub use refusals::{MEDIA_LIMIT, is_bad_size};
 pub use world::{
     LinkFile, LinkSectors, Shelf, ShelfFile, Shelved, World, WorldMachine, WorldMachines,

@@ -2,7 +2,7 @@
 
 ghost use Rattle.std.specs.Prelude.{◌≡◌, ◌<◌, ◌^◌, map, if◌then◌else◌, IfOk, Some, None};
 ghost use Rattle.std.specs.Option.{option_copied};
-ghost use Rattle.vbm_world.specs.Names.{Rises};
+ghost use Rattle.vbm_named.specs.Names.{Rises};
 ghost use Rattle.vbm_world.specs.World.{medium_name, medium_of, with_shelved, is_frozen};
 ghost use Rattle.vbm_world.specs.Refusals.{capacity_of, first_refusal, create_checks};
 ghost use Rattle.vbm_world.specs.Step.{refused, made_medium, create_medium, opened_medium, opened, open_medium};
@@ -13,14 +13,13 @@ ghost use Rattle.vbm_world.specs.declared.command.Answer.TheVariants as answers;
 ghost use Rattle.vbm_world.specs.declared.world.Shelved.TheVariants as files;
 
 use crate::command::{Answer, Refusal, Size};
-use crate::copy::Duplicate;
-use crate::names;
 use crate::shelf::{with_file, without_file};
 use crate::world::{Shelf, Shelved, World, WorldMedia, WorldMedium};
 use std::alloc::Global;
 use vbm_ids::{Kind, id_of};
 use vbm_modes::Mode;
-use vbm_ports::{Names, NoMemory, Sequence, Text};
+use vbm_named::names;
+use vbm_ports::{Copied, Names, NoMemory, Sequence, Text};
 use vbm_volume::{Flat, Variant, Volume};
 
 // The world after a command, and the answer.
@@ -35,7 +34,7 @@ fn volume_of(alloc: Global, medium: &WorldMedium, flat: &Flat) -> Result<Volume,
         modify: medium.modify,
         variant: medium.variant,
         capacity: medium.capacity,
-        flat: flat.duplicate(alloc)?,
+        flat: flat.copied(alloc)?,
     })
 }
 
@@ -51,7 +50,7 @@ fn opened_medium(alloc: Global, name: &[u8], volume: &Volume) -> Result<WorldMed
         mode: Mode::Normal,
         variant: volume.variant,
         capacity: volume.capacity,
-        flat: Some(volume.flat.duplicate(alloc)?),
+        flat: Some(volume.flat.copied(alloc)?),
     })
 }
 
@@ -89,7 +88,7 @@ impl World {
             next: self.next,
             inner: self.inner,
             media,
-            machines: self.machines.duplicate(alloc)?,
+            machines: self.machines.copied(alloc)?,
             shelf,
         })
     }
@@ -99,7 +98,7 @@ impl World {
         ensures outcome { IfOk result (λ r. outcome_of r ≡ refused (seen self.now) refusal) }
         ensures shelf { IfOk result (λ r. r.0.shelf ≡ self.now.shelf) }
     {
-        Ok((self.duplicate(alloc)?, Answer::Refused(refusal)))
+        Ok((self.copied(alloc)?, Answer::Refused(refusal)))
     }
 
     // Makes a medium where no check refuses it.
@@ -111,7 +110,7 @@ impl World {
         let medium = self.made_medium(alloc, name, capacity, variant)?;
         let id = medium.id;
         let media = names::with(alloc, self.media.as_slice(), medium)?;
-        let shelf = self.shelf.duplicate(alloc)?;
+        let shelf = self.shelf.copied(alloc)?;
         let mut world = self.replaced(alloc, media, shelf)?;
         world.next += 1;
         Ok((world, Answer::Id(id)))
@@ -156,7 +155,7 @@ impl World {
         match file {
             Some(Shelved::Volume(volume)) => self.open_volume(alloc, name, volume),
             Some(Shelved::Link(_)) | Some(Shelved::Bad(_)) | None => {
-                Ok((self.duplicate(alloc)?, Answer::Done))
+                Ok((self.copied(alloc)?, Answer::Done))
             }
         }
     }
@@ -187,7 +186,7 @@ impl World {
         ensures order { IfOk result (λ shelf. Rises file_name shelf) }
     {
         if delete {
-            return self.shelf.duplicate(alloc);
+            return self.shelf.copied(alloc);
         }
         match &medium.flat {
             Some(flat) => {
@@ -245,7 +244,7 @@ impl World {
         ensures shelf { IfOk result (λ r. r.0.shelf ≡ self.now.shelf) }
     {
         match self.medium(name) {
-            Some(medium) => Ok((self.duplicate(alloc)?, self.info(medium))),
+            Some(medium) => Ok((self.copied(alloc)?, self.info(medium))),
             None => self.refused(alloc, Refusal::NoSuchMedium),
         }
     }
@@ -255,7 +254,7 @@ impl World {
     {
         let mut names = Sequence::new(alloc);
         for medium in self.media.as_slice() {
-            names.push(medium.name.duplicate(alloc)?)?;
+            names.push(medium.name.copied(alloc)?)?;
         }
         Ok(names)
     }
@@ -265,6 +264,6 @@ impl World {
         ensures shelf { IfOk result (λ r. r.0.shelf ≡ self.now.shelf) }
     {
         let names = self.media_names(alloc)?;
-        Ok((self.duplicate(alloc)?, Answer::MediaList(names)))
+        Ok((self.copied(alloc)?, Answer::MediaList(names)))
     }
 }

@@ -9,11 +9,11 @@ ghost use Rattle.vbm_world.specs.Refusals.{first_refusal, create_checks, id_chec
 ghost use Rattle.vbm_world.specs.Seen.{seen, on_shelf};
 
 use crate::command::{Refusal, Size, Which};
-use crate::names::{find, is_same};
 use crate::world::{Shelved, World, WorldMachine, WorldMedium, WorldSlot};
 use uuid::Uuid;
 use vbm_ids::{Kind, NUMBER_LIMIT, number_of};
 use vbm_modes::Mode;
+use vbm_named::names::{find, is_same};
 
 /// How many media there may be.
 pub const MEDIA_LIMIT: usize = 1024;

@@ -1,13 +1,13 @@
 //! Shelves with a file more, and with a file less.
 
 ghost use Rattle.std.specs.Prelude.{◌≡◌, IfOk, Some, None};
-ghost use Rattle.vbm_world.specs.Names.{Rises};
+ghost use Rattle.vbm_named.specs.Names.{Rises};
 ghost use Rattle.vbm_world.specs.World.{with_shelved};
 ghost use Rattle.vbm_world.specs.Seen.{on_shelf, file_name};
 
-use crate::names;
 use crate::world::{Shelf, ShelfFile, Shelved};
 use std::alloc::Global;
+use vbm_named::names;
 use vbm_ports::{NoMemory, Text};
 
 // The files of a shelf and one more, whose name no file has.

@@ -1,7 +1,7 @@
 //! The step of the machine, plain and slow: each step copies all disks.
 
 ghost use Rattle.std.specs.Prelude.{◌≡◌, IfOk};
-ghost use Rattle.vbm_world.specs.Names.{Rises};
+ghost use Rattle.vbm_named.specs.Names.{Rises};
 ghost use Rattle.vbm_world.specs.Step.{step_of};
 ghost use Rattle.vbm_world.specs.Seen.{seen, file_name};
 ghost use Rattle.vbm_world.specs.Sound.{IsSound};

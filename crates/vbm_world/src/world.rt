@@ -2,6 +2,7 @@
 
 use uuid::Uuid;
 use vbm_modes::Mode;
+use vbm_named::Named;
 use vbm_ports::{Sequence, Text};
 use vbm_volume::{Flat, Sector, Variant, Volume};
 
@@ -40,6 +41,16 @@ pub struct ShelfFile {
     pub content: Shelved,
 }
 
+impl Named for ShelfFile {
+    ghost use Rattle.vbm_world.specs.Seen.{file_name};
+
+    ghost name_of = { file_name };
+
+    fn name(&self) -> &[u8] {
+        self.name.bytes()
+    }
+}
+
 /// Files, in the order of their names.
 pub type Shelf = Sequence<ShelfFile>;
 
@@ -57,6 +68,16 @@ pub struct WorldMedium {
     /// In bytes.
     pub capacity: u64,
     pub flat: Option<Flat>,
+}
+
+impl Named for WorldMedium {
+    ghost use Rattle.vbm_world.specs.World.{medium_name};
+
+    ghost name_of = { medium_name };
+
+    fn name(&self) -> &[u8] {
+        self.name.bytes()
+    }
 }
 
 /// Media, in the order of their names.

@@ -1,6 +1,6 @@
 use Rattle.std.proofs.Common.{sym, ap, ◌∙◌}
 use Rattle.std.specs.Option.{option_copied}
-use Rattle.vbm_world.specs.Names.{find_by}
+use Rattle.vbm_named.specs.Names.{find_by}
 use Rattle.vbm_engine.specs.Serves.{image_name}
 use Rattle.vbm_engine.proofs.Asks.{no_medium, shows_none, shows}
 use Rattle.vbm_engine.proofs.ask.decide_show.Goals as goal

@@ -1,7 +1,7 @@
 use Rattle.std.proofs.Common.{sym, ap, ◌∙◌, is_some}
 use Rattle.std.specs.Option.{option_copied}
 use Rattle.vbm_registry.specs.Library.{medium_entry_name}
-use Rattle.vbm_world.proofs.Lists.{has_found}
+use Rattle.vbm_named.proofs.Lists.{has_found}
 use Rattle.vbm_engine.proofs.Closes.{closes_none}
 use Rattle.vbm_engine.proofs.close.decide_close.Goals as goal
 

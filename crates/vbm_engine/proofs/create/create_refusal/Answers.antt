@@ -2,7 +2,7 @@ use Rattle.std.proofs.Common.{◌^◌, length, is_some, ap, sym, ◌∙◌}
 use Rattle.std.specs.Prelude.{nat_le}
 use Rattle.std.proofs.lemmas.Bool.{leb-false}
 use Rattle.vbm_world.specs.Refusals.{capacity_of, is_bad_size}
-use Rattle.vbm_world.proofs.Lists.{has_found}
+use Rattle.vbm_named.proofs.Lists.{has_found}
 use Rattle.vbm_registry.specs.Library.{medium_entry_name}
 use Rattle.vbm_engine.specs.Creates.{first_check}
 use Rattle.vbm_engine.proofs.Creating.{none_holds, some_map, some_copied, refusal_is}

@@ -1,7 +1,7 @@
 use Rattle.std.proofs.Common.{List, ◌++◌, ap, ◌∙◌}
 use Rattle.vbm_intent.specs.declared.change.Change.{Change}
 use Rattle.vbm_intent.specs.Changes.{of_file}
-use Rattle.vbm_world.proofs.Lists.{name_sym}
+use Rattle.vbm_named.proofs.Lists.{name_sym}
 use Rattle.vbm_registry.specs.Library.{library_name}
 use Rattle.vbm_engine.specs.Plans.{image_changes}
 use Rattle.vbm_engine.proofs.Decisions.{medium_not_library}

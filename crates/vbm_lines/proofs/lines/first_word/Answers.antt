@@ -1,7 +1,7 @@
 use Rattle.std.proofs.Common.{◌≡◌, ◌≢◌, length, drop, sym, ◌∙◌}
 use Rattle.std.specs.List.{prefix_len}
 use Rattle.std.proofs.lemmas.Bool.{eqb-true, eqb-false}
-use Rattle.vbm_world.specs.Lines.{is_blank}
+use Rattle.vbm_lines.specs.Lines.{is_blank}
 use Rattle.vbm_lines.proofs.Runs.{no_words, one_word}
 use Rattle.vbm_lines.proofs.lines.first_word.Goals as goal
 

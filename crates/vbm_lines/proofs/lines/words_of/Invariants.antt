@@ -1,5 +1,5 @@
 use Rattle.std.proofs.Common.{◌≡◌, ◌++◌, length}
-use Rattle.vbm_world.specs.Lines.{words_in}
+use Rattle.vbm_lines.specs.Lines.{words_in}
 use Rattle.vbm_lines.proofs.lines.words_of.Given as goal
 
 abbrev pub invariant-loop-word : goal.invariant-loop-word

@@ -1,7 +1,7 @@
 use Rattle.std.proofs.Common.{◌≡◌, drop, Some, None, ap, sym, ◌∙◌}
 use Rattle.std.specs.List.{position}
 use Rattle.std.proofs.lemmas.List.{take_rest}
-use Rattle.vbm_world.specs.Lines.{is_newline}
+use Rattle.vbm_lines.specs.Lines.{is_newline}
 use Rattle.vbm_lines.proofs.Windows.{searched-none, searched-some}
 use Rattle.vbm_lines.proofs.window.newline_from.Goals as goal
 

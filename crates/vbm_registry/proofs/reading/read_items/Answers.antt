@@ -1,7 +1,7 @@
 use Rattle.std.proofs.Common.{[], IsTrue}
 use Rattle.std.proofs.lemmas.Result.{err_from_is_err_and}
-use Rattle.vbm_world.specs.Names.{is_before}
-use Rattle.vbm_named.proofs.Order.{before_trans, All-push, after_none}
+use Rattle.vbm_named.specs.Names.{is_before}
+use Rattle.vbm_named.proofs.Lists.{before_trans, All-push, after_none}
 use Rattle.vbm_registry.specs.Library.{medium_entry_name}
 use Rattle.vbm_registry.specs.Reading.{medium_at, items_at}
 use Rattle.vbm_registry.proofs.Items.{goes_on, stops_too, is_done}

@@ -1,9 +1,9 @@
 use Rattle.std.proofs.Common.{[], IsTrue}
-use Rattle.vbm_world.specs.Names.{Name, is_before}
+use Rattle.vbm_named.specs.Names.{Name, is_before}
 use Rattle.vbm_registry.specs.Library.{medium_entry_name}
 use Rattle.vbm_registry.specs.Reading.{medium_at, items_at}
 use Rattle.vbm_registry.proofs.Items.{SoFar}
-use Rattle.vbm_named.proofs.Order.{ComesAfter}
+use Rattle.vbm_named.proofs.Lists.{ComesAfter}
 use Rattle.vbm_registry.proofs.reading.read_items.Given as goal
 
 abbrev pub invariant-loop : goal.invariant-loop

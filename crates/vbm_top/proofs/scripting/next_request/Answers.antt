@@ -1,5 +1,5 @@
 use Rattle.std.proofs.Common.{[], ◌∷◌}
-use Rattle.vbm_world.specs.Lines.{Short, TooLong}
+use Rattle.vbm_lines.specs.Lines.{Short, TooLong}
 use Rattle.vbm_lines.specs.declared.reader.Next.TheVariants.{Line, End, ReadFault, Spent}
 use Rattle.vbm_lines.proofs.Readers.{are_read}
 use Rattle.vbm_top.proofs.Going.{fewer_read}

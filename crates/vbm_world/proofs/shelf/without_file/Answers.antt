@@ -1,5 +1,5 @@
 use Rattle.vbm_world.specs.Seen.{file_name}
-use Rattle.vbm_world.proofs.Lists.{rises_without}
+use Rattle.vbm_named.proofs.Lists.{rises_without}
 use Rattle.vbm_world.proofs.Stepping.{ok_is, shelf_without}
 use Rattle.vbm_world.proofs.shelf.without_file.Goals as goal
 

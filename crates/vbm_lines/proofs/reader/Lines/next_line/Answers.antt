@@ -1,5 +1,5 @@
 use Rattle.std.proofs.Common.{◌≡◌, ◌≤◌, IsFalse, ap, sym, subst, ◌∙◌, arith}
-use Rattle.vbm_world.specs.Lines.{HasNoNewline}
+use Rattle.vbm_lines.specs.Lines.{HasNoNewline}
 use Rattle.vbm_lines.specs.Reader.{Reader, IsAt}
 use Rattle.vbm_lines.proofs.Readers.{too_long, cut_off}
 use Rattle.vbm_lines.proofs.Windows.{from_on_err}

@@ -1,5 +1,5 @@
 use Rattle.std.proofs.Common.{◌≡◌, ◌≤◌, ◌⊎◌, ℕ, List, length, take, IsFalse}
-use Rattle.vbm_world.specs.Lines.{HasNoNewline, Line}
+use Rattle.vbm_lines.specs.Lines.{HasNoNewline, Line}
 use Rattle.vbm_lines.specs.Reader.{IsAt, left_over}
 use Rattle.vbm_lines.specs.Steps.{turns}
 use Rattle.vbm_lines.proofs.reader.Lines.next_line.Given as goal

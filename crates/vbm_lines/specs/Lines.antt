@@ -1,7 +1,9 @@
 -- The lines of an input, and the words of a line.
 use Rattle.std.specs.Prelude.{◌≡◌, ◌⊎◌, ℕ, ◌^◌, ◌==◌, ◌&&◌, ◌||◌, nat_lt, Bool, true, false, if◌then◌else◌, List, [], ◌∷◌, ◌++◌, length, map, IsFalse}
 use Rattle.std.specs.List.{list_any}
-use Rattle.vbm_world.specs.Texts.{Words}
+
+abbrev pub Words : Type 0
+Words = List (List ℕ)
 
 -- a byte before the first of these pieces
 abbrev pub before_first : ℕ → List (List ℕ) → List (List ℕ)

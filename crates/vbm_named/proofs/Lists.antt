@@ -1,5 +1,5 @@
 -- Lists by name.
-use Rattle.std.proofs.Common.{◌≡◌, ◌+◌, ◌≤◌, Bool, true, false, not, cond, ◌||◌, List, [], ◌∷◌, map, length, Option, Some, None, refl, sym, ap, subst, ◌∙◌, arith, is_some, is_eq, IsTrue}
+use Rattle.std.proofs.Common.{◌≡◌, ◌+◌, ◌≤◌, Bool, true, false, not, cond, ◌||◌, List, [], ◌∷◌, ◌++◌, map, length, Option, Some, None, refl, sym, ap, subst, ◌∙◌, arith, is_some, is_eq, IsTrue, IsFalse}
 use Rattle.std.specs.List.{AllByRecursion, list_any}
 use Rattle.std.specs.Option.{option_map}
 use Rattle.std.specs.Str.{bytes_eq}
@@ -10,7 +10,7 @@ use Rattle.std.specs.declared.cmp.Ordering.TheVariants.{Less, Equal, Greater}
 use Rattle.std.proofs.lemmas.Bool.{or_parts, not-true, not-false, cond_both}
 use Rattle.std.proofs.lemmas.Cmp.{nat_list_cmp_total, nat_list_eq_equiv}
 use Rattle.std.proofs.lemmas.Map.Text.{is_eq-slice_cmp}
-use Rattle.vbm_world.specs.Names.{Name, is_less, is_before, is_named, find_by, has_name, put_by, without, change_by, Rises}
+use Rattle.vbm_named.specs.Names.{Name, is_less, is_before, is_named, find_by, has_name, put_by, without, change_by, Rises}
 
 -- ---- names
 
@@ -20,9 +20,10 @@ name_refl a = nat_list_eq_equiv.refl a
 pub name_sym : (a b : Name) → bytes_eq a b ≡ bytes_eq b a
 name_sym a b = nat_list_eq_equiv.symm a b
 
-less_from : (o : Ordering) → is_less o ≡ true → o ≡ Less
-less_from Less e = refl
-less_from o e = absurd cc
+pub less_is : (o : Ordering) → IsTrue (is_less o) → o ≡ Less
+less_is Less h = refl
+less_is Equal h = absurd cc
+less_is Greater h = absurd cc
 
 reversed : (o p : Ordering) → p ≡ ordering_reverse o → is_less o ≡ false → is_eq p ≡ false → is_less p ≡ true
 reversed Less p e h k = absurd cc
@@ -30,10 +31,10 @@ reversed Equal p e h k = let u : true ≡ false = sym (ap is_eq e) ∙ k in absu
 reversed Greater p e h k = ap is_less e
 
 pub before_trans : (a b c : Name) → IsTrue (is_before a b) → IsTrue (is_before b c) → IsTrue (is_before a c)
-before_trans a b c h k = ap is_less (nat_list_cmp_total.trans a b c (less_from (slice_cmp nat_cmp a b) h) (less_from (slice_cmp nat_cmp b c) k))
+before_trans a b c h k = ap is_less (nat_list_cmp_total.trans a b c (less_is (slice_cmp nat_cmp a b) h) (less_is (slice_cmp nat_cmp b c) k))
 
 pub before_other : (a b : Name) → IsTrue (is_before a b) → bytes_eq a b ≡ false
-before_other a b h = sym (is_eq-slice_cmp a b) ∙ ap is_eq (less_from (slice_cmp nat_cmp a b) h)
+before_other a b h = sym (is_eq-slice_cmp a b) ∙ ap is_eq (less_is (slice_cmp nat_cmp a b) h)
 
 pub not_before : (a b : Name) → is_before a b ≡ false → bytes_eq a b ≡ false → IsTrue (is_before b a)
 not_before a b h k =
@@ -65,6 +66,10 @@ module _ {X : Type 0} where
   pub none_of_any : (p : X → Bool) (xs : List X) → list_any p xs ≡ false → AllByRecursion (λ x. p x ≡ false) xs
   none_of_any p [] none = tt
   none_of_any p (x ∷ xs) none = let both = or_parts (p x) (list_any p xs) none in (both.0, none_of_any p xs both.1)
+
+  pub All-push : (P : X → Type 0) (xs : List X) (x : X) → AllByRecursion P xs → P x → AllByRecursion P (xs ++ x ∷ [])
+  All-push P [] x all h = (h, tt)
+  All-push P (y ∷ ys) x all h = (all.0, All-push P ys x all.1 h)
 
 module _ {X Y : Type 0} (f : X → Y) where
   pub All-of_map : (P : Y → Type 0) (xs : List X) → AllByRecursion (λ x. P (f x)) xs → AllByRecursion P (map f xs)
@@ -114,6 +119,17 @@ module _ {X : Type 0} (nx : X → Name) where
     All-join _ _ (λ y. find_by nx (nx y) (x ∷ xs) ≡ Some y) (λ y before is. rw (before_other (nx x) (nx y) before) is)
         xs rises.0 (each_found xs rises.1),
   )
+
+  -- ---- the order of names
+
+  -- each item is before a name
+  abbrev pub ComesAfter : Name → List X → Type 0
+  ComesAfter name xs = AllByRecursion (λ x. IsTrue (is_before (nx x) name)) xs
+
+  -- and so none has it
+  pub after_none : (name : Name) (xs : List X) → ComesAfter name xs → IsFalse (has_name nx name xs)
+  after_none name [] after = refl
+  after_none name (x ∷ xs) after = rw (before_other (nx x) name after.0, after_none name xs after.1) refl
 
   -- ---- one more item
 
