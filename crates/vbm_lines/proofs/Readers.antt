@@ -1,21 +1,23 @@
 -- Where a reader of lines is in an input.
-use Rattle.std.proofs.Common.{◌≡◌, ℕ, ◌+◌, ◌-◌, ◌^◌, ◌<◌, ◌≤◌, min, Bool, true, false, List, [], ◌∷◌, ◌++◌, append_assoc, length, take, drop, ◌⊎◌, inl, inr, IsTrue, IsFalse, ltb, refl, sym, ap, subst, ◌∙◌, arith, length-append, length-drop, length-take}
+use Rattle.std.proofs.Common.{◌≡◌, ℕ, ◌+◌, ◌-◌, ◌<◌, ◌≤◌, min, Bool, true, false, List, [], ◌∷◌, ◌++◌, append_assoc, length, take, drop, ◌⊎◌, inl, inr, IsTrue, IsFalse, ltb, refl, sym, ap, subst, ◌∙◌, arith, length-append, length-drop, length-take}
 use Rattle.std.specs.Prelude.{nat_lt, if◌then◌else◌}
 use Rattle.std.proofs.Math.Seq.{take-add, take-append-add}
-use Rattle.std.proofs.lemmas.Bool.{cases_lt, cond-true, cond-false, lt-ltb, le-ltb, eqb-true}
+use Rattle.std.proofs.lemmas.Bool.{cases_lt, cond-true, cond-false, cond_both, lt-ltb, ltb-true, le-ltb, eqb-true}
 use Rattle.std.proofs.lemmas.List.{append-nil, take-append-drop, take_all, drop_all, take-take, drop-drop}
-use Rattle.vbm_lines.specs.Lines.{Line as ReadLine, Short, TooLong, line_in, read_lines, AreWhole, HasNoNewline}
+use Rattle.vbm_lines.specs.declared.lines.TheConstants.{LONGEST_LINE}
+use Rattle.vbm_lines.specs.Lines.{Line as ReadLine, Short, TooLong, line_in, read_lines, lines_done, up_to_newline, AreWhole, HasNoNewline}
 use Rattle.vbm_lines.specs.declared.reader.Next.{Next}
 use Rattle.vbm_lines.specs.declared.reader.Next.TheVariants.{Line, Long, End, ReadFault, Spent}
 use Rattle.vbm_lines.specs.Inputs.{AreFirst, AreRead, IsAllRead, IsCutOff, IsTooLong}
 use Rattle.vbm_lines.specs.Reader.{Reader, new_reader, AreLost, IsAt, Gives}
 use Rattle.vbm_lines.specs.Steps.{IsNext, counted_in}
 use Rattle.vbm_lines.specs.Window.{without_return, IsFirstNewline, Extends}
-use Rattle.vbm_lines.proofs.Splits.{no_newline-append, read-append, read-ended, read-last, line_in-long, line_in-short, are_first, whole-ended, length-without_return}
+use Rattle.vbm_lines.proofs.Splits.{no_newline-append, read-append, read-ended, read-last, line_in-long, line_in-short, are_first, up_to-append, whole-ended, length-without_return}
 
 -- a new reader is at the beginning
 pub starts_at : (most : ℕ) (input : List ℕ) → IsAt (new_reader most) input input []
 starts_at most input = record {
+  bound = omega arith;
   within = omega arith;
   source = refl;
   done = [];
@@ -93,6 +95,7 @@ module _ (r : Reader) (input rest : List ℕ) (lines : List ReadLine) (at : IsAt
       → IsAt (record r { held = drop (i + 1) r.held; skipping = false }) input rest
       (lines ++ line_in (without_return (at.holds.lost ++ take i r.held)) ∷ [])
   ended-line i first = record {
+    bound = at.bound;
     within = at.within;
     source = at.source;
     done = at.done ++ (body ++ 10 ∷ []);
@@ -129,6 +132,7 @@ module _ (r : Reader) (input rest : List ℕ) (lines : List ReadLine) (at : IsAt
   last-line : IsTrue r.ended → HasNoNewline r.held → 0 < length at.left
       → IsAt (record r { held = []; skipping = false }) input rest (lines ++ line_in at.left ∷ [])
   last-line ended none some = record {
+    bound = at.bound;
     within = at.within;
     source = at.source;
     done = at.done ++ at.left;
@@ -156,8 +160,9 @@ module _ (r : Reader) (input rest : List ℕ) (lines : List ReadLine) (at : IsAt
       long = elim some [ inl held ↦ omega arith | inr skipping ↦ omega (arith, lost-some r.skipping at.holds.lost at.holds.are_lost skipping) ]
 
   -- bytes of a line that is too long are let go
-  pub dropped : 2 ^ 14 + 1 < length r.held → HasNoNewline r.held → IsAt (record r { held = []; skipping = true }) input rest lines
+  pub dropped : LONGEST_LINE + 1 < length r.held → HasNoNewline r.held → IsAt (record r { held = []; skipping = true }) input rest lines
   dropped long none = record {
+    bound = at.bound;
     within = at.within;
     source = at.source;
     done = at.done;
@@ -261,6 +266,7 @@ module _ (r : Reader) (input rest : List ℕ) (lines : List ReadLine) (at : IsAt
 
     pub more_taken : IsAt (counted_in (record r { held = window }) n) input new_rest lines
     more_taken = record {
+      bound = fits;
       within = omega (arith, at.within, took.within, ap length at.source, length-drop r.taken input);
       source = took.rest ∙ ap (drop n) at.source ∙ drop-drop n r.taken input;
       done = at.done;
@@ -294,16 +300,44 @@ module _ (r : Reader) (input rest : List ℕ) (lines : List ReadLine) (at : IsAt
     )
   ]
 
--- the lines are the first of the input, and of what was taken
-pub are_read : (r : Reader) (input rest : List ℕ) (lines : List ReadLine) → IsAt r input rest lines → AreRead input rest lines
+  of_done : AreFirst (lines_done r.most input) lines
+  of_done = cond_both (nat_lt r.most (length input)) (read_lines (up_to_newline (take r.most input))) (read_lines input) (λ all. AreFirst all lines)
+      (λ long. of_long (ltb-true r.most (length input) long)) (λ short. of_input)
+    where
+      near : ℕ
+      near = min r.taken r.most
+
+      of_input : AreFirst (read_lines input) lines
+      of_input = first input (drop near input)
+          (sym (take-append-drop near input) ∙ ap (λ xs. xs ++ drop near input) at.split ∙ append_assoc at.done at.left (drop near input))
+          (λ ended. ap (λ k. drop k input) (let e : near ≡ r.taken = omega (arith, (at.end ended).1) in e) ∙ sym at.source ∙ (at.end ended).0)
+
+      -- behind them stand bytes that a run may make lines of
+      behind : List ℕ
+      behind = drop near (take r.most input)
+
+      cut : take r.most input ≡ at.done ++ (at.left ++ behind)
+      cut = sym (take-append-drop near (take r.most input))
+          ∙ ap (λ xs. xs ++ behind) (take-take near r.most input (omega arith) ∙ at.split) ∙ append_assoc at.done at.left behind
+
+      of_long : r.most < length input → AreFirst (read_lines (up_to_newline (take r.most input))) lines
+      of_long long = elim at.whole [
+        | inl is ↦
+            let more = up_to_newline (at.left ++ behind) in
+            let begins = are_first at.done more is in
+            (begins.0, ap read_lines (ap up_to_newline cut ∙ up_to-append at.done (at.left ++ behind) is) ∙ begins.1 ∙ ap (λ xs. xs ++ begins.0) (sym at.are))
+        | inr last ↦
+            let end = at.end last.0 in
+            absurd (omega (arith, long, end.1, ap length end.0, ap length at.source, length-drop r.taken input))
+      ]
+
+-- The lines are the first of those that a run does, and of what was taken.
+pub are_read : (r : Reader) (input rest : List ℕ) (lines : List ReadLine) → IsAt r input rest lines → AreRead r.most input rest lines
 are_read r input rest lines at = record {
   taken = take r.taken input;
   split = sym (take-append-drop r.taken input) ∙ ap (λ xs. take r.taken input ++ xs) (sym at.source);
-  of_input = first r input rest lines at input (drop (min r.taken r.most) input)
-      (sym (take-append-drop (min r.taken r.most) input) ∙ ap (λ xs. xs ++ drop (min r.taken r.most) input) at.split
-      ∙ append_assoc at.done at.left (drop (min r.taken r.most) input))
-      (λ ended. ap (λ k. drop k input) (let e : min r.taken r.most ≡ r.taken = omega (arith, (at.end ended).1) in e)
-      ∙ sym at.source ∙ (at.end ended).0);
+  bound = omega (arith, length-take r.taken input, at.bound);
+  of_input = of_done r input rest lines at;
   of_taken = first r input rest lines at (take r.taken input) (drop (min r.taken r.most) (take r.taken input))
       (sym (take-append-drop (min r.taken r.most) (take r.taken input))
       ∙ ap (λ xs. xs ++ drop (min r.taken r.most) (take r.taken input)) (take-take (min r.taken r.most) r.taken input (omega arith) ∙ at.split)

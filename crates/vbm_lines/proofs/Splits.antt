@@ -1,12 +1,13 @@
 -- How an input splits into lines.
-use Rattle.std.proofs.Common.{◌≡◌, ℕ, ◌+◌, ◌<◌, ◌≤◌, ◌^◌, ltb, Bool, true, false, List, [], ◌∷◌, ◌++◌, append_assoc, length, refl, sym, ap, ◌∙◌, arith, inl, inr}
-use Rattle.std.specs.Prelude.{◌==◌, ◌&&◌, map, if◌then◌else◌}
+use Rattle.std.proofs.Common.{◌≡◌, ℕ, ◌+◌, ◌<◌, ◌≤◌, ltb, Bool, true, false, List, [], ◌∷◌, ◌++◌, append_assoc, length, take, drop, refl, sym, ap, subst, ◌∙◌, arith, inl, inr}
+use Rattle.std.specs.Prelude.{◌==◌, ◌&&◌, ◌||◌, map, nat_lt, if◌then◌else◌}
 use Rattle.std.specs.List.{list_any}
-use Rattle.std.proofs.lemmas.Bool.{or_parts, or_from, cond-true, cond-false, lt-ltb, le-ltb}
-use Rattle.std.proofs.lemmas.List.{append-nil, map-append}
+use Rattle.std.proofs.lemmas.Bool.{or_parts, or_from, cond-true, cond-false, cond_both, lt-ltb, le-ltb, eqb-true}
+use Rattle.std.proofs.lemmas.List.{append-nil, map-append, take-append-drop}
 use Rattle.std.proofs.lemmas.List.Folds.{list_any-append}
-use Rattle.vbm_lines.specs.Lines.{lines_of, before_first, begins_with, is_newline, Short, TooLong, line_in, read_lines, AreWhole, HasNoNewline}
-use Rattle.vbm_lines.specs.Inputs.{AreFirst}
+use Rattle.vbm_lines.specs.declared.lines.TheConstants.{LONGEST_LINE}
+use Rattle.vbm_lines.specs.Lines.{Line, lines_of, before_first, begins_with, is_newline, Short, TooLong, line_in, read_lines, lines_done, up_to_newline, AreWhole, AreEnded, HasNoNewline}
+use Rattle.vbm_lines.specs.Inputs.{AreFirst, IsAllRead, IsTooLong}
 use Rattle.vbm_lines.specs.Window.{without_return}
 
 -- no newline among bytes: none is the first, and none is behind it
@@ -104,14 +105,96 @@ pub read-last : (body : List ℕ) → 0 < length body → HasNoNewline body → 
 read-last [] some none = absurd (omega arith)
 read-last (b ∷ bytes) some none = ap (map line_in) (lines-last b bytes none)
 
-pub line_in-long : (line : List ℕ) → 2 ^ 14 < length line → line_in line ≡ TooLong
-line_in-long line long = cond-true (ltb (2 ^ 14) (length line)) TooLong (Short line) (lt-ltb (2 ^ 14) (length line) long)
+pub line_in-long : (line : List ℕ) → LONGEST_LINE < length line → line_in line ≡ TooLong
+line_in-long line long = cond-true (ltb LONGEST_LINE (length line)) TooLong (Short line) (lt-ltb LONGEST_LINE (length line) long)
 
-pub line_in-short : (line : List ℕ) → length line ≤ 2 ^ 14 → line_in line ≡ Short line
-line_in-short line short = cond-false (ltb (2 ^ 14) (length line)) TooLong (Short line) (le-ltb (2 ^ 14) (length line) short)
+pub line_in-short : (line : List ℕ) → length line ≤ LONGEST_LINE → line_in line ≡ Short line
+line_in-short line short = cond-false (ltb LONGEST_LINE (length line)) TooLong (Short line) (le-ltb LONGEST_LINE (length line) short)
 
 pub are_first : (front back : List ℕ) → AreWhole front → AreFirst (read_lines (front ++ back)) (read_lines front)
 are_first front back whole = (read_lines back, read-append front back whole)
+
+-- ---- the bytes up to the last newline
+
+has_newline : (front back : List ℕ) → list_any is_newline (front ++ 10 ∷ back) ≡ true
+has_newline [] back = refl
+has_newline (b ∷ front) back = or_right (is_newline b) (list_any is_newline (front ++ 10 ∷ back)) (has_newline front back)
+  where
+    or_right : (a b : Bool) → b ≡ true → (a || b) ≡ true
+    or_right true b is = refl
+    or_right false b is = is
+
+up_to-ended : (front back : List ℕ) → up_to_newline (front ++ 10 ∷ back) ≡ front ++ 10 ∷ up_to_newline back
+up_to-ended [] back = refl
+up_to-ended (b ∷ front) back = rw (has_newline (b ∷ front) back) (ap (λ bytes. b ∷ bytes) (up_to-ended front back))
+
+pub up_to-append : (front back : List ℕ) → AreWhole front → up_to_newline (front ++ back) ≡ front ++ up_to_newline back
+up_to-append front back (inl none) = rw none refl
+up_to-append front back (inr whole) =
+    rw whole.1 (ap up_to_newline (append_assoc whole.0 (10 ∷ []) back) ∙ up_to-ended whole.0 back
+    ∙ sym (append_assoc whole.0 (10 ∷ []) (up_to_newline back)))
+
+pub up_to-none : (bytes : List ℕ) → HasNoNewline bytes → up_to_newline bytes ≡ []
+up_to-none [] none = refl
+up_to-none (b ∷ bytes) none = rw none refl
+
+up_to-whole : (bytes : List ℕ) → AreWhole (up_to_newline bytes)
+up_to-whole [] = inl refl
+up_to-whole (b ∷ bytes) = cond_both (list_any is_newline (b ∷ bytes)) (b ∷ up_to_newline bytes) [] AreWhole
+    (λ some. longer b bytes some (up_to-whole bytes)) (λ none. inl refl)
+  where
+    empty : (some : Bool) (b : ℕ) (bytes : List ℕ) → some ≡ true → (if some then b ∷ bytes else []) ≡ [] → false ≡ true
+    empty true b bytes is none = absurd cc
+    empty false b bytes is none = is
+
+    alone : (first : Bool) (bytes : List ℕ) → (first || list_any is_newline bytes) ≡ true → up_to_newline bytes ≡ [] → first ≡ true
+    alone true bytes some none = refl
+    alone false [] some none = some
+    alone false (c ∷ bytes) some none = empty (list_any is_newline (c ∷ bytes)) c (up_to_newline bytes) some none
+
+    -- the newline is the first byte, or among those behind it
+    longer : (b : ℕ) (bytes : List ℕ) → list_any is_newline (b ∷ bytes) ≡ true → AreWhole (up_to_newline bytes)
+        → AreWhole (b ∷ up_to_newline bytes)
+    longer b bytes some (inr whole) = inr (b ∷ whole.0, ap (λ xs. b ∷ xs) whole.1)
+    longer b bytes some (inl none) = inr ([], rw none (ap (λ c. c ∷ []) (eqb-true b 10 (alone (is_newline b) bytes some none))))
+
+up_to-split : (bytes : List ℕ) → (tail : List ℕ) × (bytes ≡ up_to_newline bytes ++ tail)
+up_to-split [] = ([], refl)
+up_to-split (b ∷ bytes) = cond_both (list_any is_newline (b ∷ bytes)) (b ∷ up_to_newline bytes) []
+    (λ front. (tail : List ℕ) × (b ∷ bytes ≡ front ++ tail))
+    (λ some. let rest = up_to-split bytes in (rest.0, ap (λ xs. b ∷ xs) rest.1)) (λ none. (b ∷ bytes, refl))
+
+-- the lines that a run does are the first of the input
+pub done_first : (most : ℕ) (input : List ℕ) → AreFirst (read_lines input) (lines_done most input)
+done_first most input = cond_both (nat_lt most (length input)) (read_lines (up_to_newline (take most input))) (read_lines input)
+    (AreFirst (read_lines input))
+    (λ long. subst (λ bytes. AreFirst (read_lines bytes) (read_lines front)) whole (are_first front (tail.0 ++ drop most input) (up_to-whole cut)))
+    (λ short. ([], sym (append-nil (read_lines input))))
+  where
+    cut : List ℕ
+    cut = take most input
+
+    front : List ℕ
+    front = up_to_newline cut
+
+    tail : (tail : List ℕ) × (cut ≡ front ++ tail)
+    tail = up_to-split cut
+
+    whole : front ++ (tail.0 ++ drop most input) ≡ input
+    whole = sym (append_assoc front tail.0 (drop most input)) ∙ ap (λ bytes. bytes ++ drop most input) (sym tail.1) ∙ take-append-drop most input
+
+-- where all is read, and where the input is too long, all lines that a run does are read
+pub done_all : (most : ℕ) (input rest : List ℕ) (lines : List Line) → IsAllRead most input rest lines → lines ≡ lines_done most input
+done_all most input rest lines all = all.are ∙ sym (cond-false (nat_lt most (length input)) _ _ (le-ltb most (length input) all.short))
+
+pub done_long : (most : ℕ) (input rest : List ℕ) (lines : List Line) → IsTooLong most input rest lines → lines ≡ lines_done most input
+done_long most input rest lines long =
+    ended.are ∙ ap read_lines (sym (ap up_to_newline ended.split ∙ up_to-append ended.front ended.tail ended.whole
+    ∙ ap (λ bytes. ended.front ++ bytes) (up_to-none ended.tail ended.unended) ∙ append-nil ended.front))
+    ∙ sym (cond-true (nat_lt most (length input)) _ _ (lt-ltb most (length input) long.long))
+  where
+    ended : AreEnded (take most input) lines
+    ended = long.ended
 
 -- a newline ends whole lines
 pub whole-ended : (front body : List ℕ) → AreWhole (front ++ (body ++ 10 ∷ []))

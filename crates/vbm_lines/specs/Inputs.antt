@@ -1,16 +1,18 @@
 -- Lines that were read of an input, of which a source still has the rest. Only the first `most` bytes of it make lines.
 use Rattle.std.specs.Prelude.{◌≡◌, ℕ, ◌+◌, ◌<◌, ◌≤◌, List, [], ◌++◌, length, take, drop}
-use Rattle.vbm_lines.specs.Lines.{Line, read_lines, AreEnded}
+use Rattle.vbm_lines.specs.Lines.{Line, read_lines, lines_done, AreEnded}
 
 -- lines with which these begin
 abbrev pub AreFirst : List Line → List Line → Type 0
 AreFirst all lines = (more : List Line) × (all ≡ lines ++ more)
 
--- The lines are the first of an input, and of that part of it which was taken.
-pub record AreRead (input rest : List ℕ) (lines : List Line) : Type 0 where
+-- The lines are the first of those of an input that a run does, and the first of what was taken: one byte more at most than lines
+-- are made of.
+pub record AreRead (most : ℕ) (input rest : List ℕ) (lines : List Line) : Type 0 where
   pub taken : List ℕ
   pub split : input ≡ taken ++ rest
-  pub of_input : AreFirst (read_lines input) lines
+  pub bound : length taken ≤ most + 1
+  pub of_input : AreFirst (lines_done most input) lines
   pub of_taken : AreFirst (read_lines taken) lines
 
 -- all input was read, and it is no longer than a run takes

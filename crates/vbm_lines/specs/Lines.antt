@@ -1,6 +1,7 @@
 -- The lines of an input, and the words of a line.
-use Rattle.std.specs.Prelude.{◌≡◌, ◌⊎◌, ℕ, ◌^◌, ◌==◌, ◌&&◌, ◌||◌, nat_lt, Bool, true, false, if◌then◌else◌, List, [], ◌∷◌, ◌++◌, length, map, IsFalse}
+use Rattle.std.specs.Prelude.{◌≡◌, ◌⊎◌, ℕ, ◌==◌, ◌&&◌, ◌||◌, nat_lt, Bool, true, false, if◌then◌else◌, List, [], ◌∷◌, ◌++◌, length, take, map, IsFalse}
 use Rattle.std.specs.List.{list_any}
+use Rattle.vbm_lines.specs.declared.lines.TheConstants.{LONGEST_LINE}
 
 abbrev pub Words : Type 0
 Words = List (List ℕ)
@@ -47,9 +48,9 @@ words_in (b ∷ bytes) =
     else if begins_with is_blank bytes then (b ∷ []) ∷ words_in bytes
     else before_first b (words_in bytes)
 
--- A line of more than 16384 bytes is too long to be a command.
+-- too long to be a command
 abbrev pub is_long : List ℕ → Bool
-is_long line = nat_lt (2 ^ 14) (length line)
+is_long line = nat_lt LONGEST_LINE (length line)
 
 -- a line as it is read: of one that is too long nothing else matters
 pub data Line : Type 0 where
@@ -70,6 +71,16 @@ pub record AreEnded (input : List ℕ) (lines : List Line) : Type 0 where
   pub whole : AreWhole front
   pub unended : HasNoNewline tail
   pub are : lines ≡ read_lines front
+
+-- the bytes up to the last newline
+abbrev pub up_to_newline : List ℕ → List ℕ
+up_to_newline [] = []
+up_to_newline (b ∷ bytes) = if list_any is_newline (b ∷ bytes) then b ∷ up_to_newline bytes else []
+
+-- The lines of an input that a run does, which takes up only so many bytes: all of them where the input is no longer, and else those
+-- that a newline ends among these bytes.
+abbrev pub lines_done : (most : ℕ) → List ℕ → List Line
+lines_done most input = if nat_lt most (length input) then read_lines (up_to_newline (take most input)) else read_lines input
 
 -- no words, or a comment
 abbrev pub says_nothing : Words → Bool

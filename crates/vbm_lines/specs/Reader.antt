@@ -1,7 +1,9 @@
 -- A reader of lines, and how far it is in an input.
-use Rattle.std.specs.Prelude.{◌≡◌, ◌⊎◌, ℕ, ◌+◌, ◌-◌, ◌^◌, ◌<◌, ◌≤◌, min, Bool, true, false, if◌then◌else◌, List, [], ◌∷◌, ◌++◌, length, take, drop, IsTrue}
+use Rattle.std.specs.Prelude.{◌≡◌, ◌⊎◌, ℕ, ◌+◌, ◌-◌, ◌<◌, ◌≤◌, min, Bool, true, false, if◌then◌else◌, List, [], ◌∷◌, ◌++◌, length, take, drop, Result, Ok, Err, IsTrue}
+use Rattle.vbm_ports.specs.declared.NoMemory.{NoMemory}
 use Rattle.vbm_lines.specs.Lines.{Line as ReadLine, Short, TooLong, read_lines, AreWhole, HasNoNewline}
 use Rattle.vbm_lines.specs.Inputs.{IsAllRead, IsCutOff, IsTooLong}
+use Rattle.vbm_lines.specs.declared.lines.TheConstants.{LONGEST_LINE}
 use Rattle.vbm_lines.specs.declared.reader.Next.{Next}
 use Rattle.vbm_lines.specs.declared.reader.Next.TheVariants.{Line, Long, End, ReadFault, Spent}
 
@@ -23,7 +25,7 @@ new_reader most = record { most = most; taken = 0; held = []; skipping = false; 
 -- the first bytes of a line that are not held
 abbrev pub AreLost : Bool → List ℕ → Type 0
 AreLost false lost = lost ≡ []
-AreLost true lost = (2 ^ 14 + 1 < length lost) × HasNoNewline lost
+AreLost true lost = (LONGEST_LINE + 1 < length lost) × HasNoNewline lost
 
 -- what is left behind the lines that were read
 pub record IsLeft (r : Reader) (left : List ℕ) : Type 0 where
@@ -33,6 +35,7 @@ pub record IsLeft (r : Reader) (left : List ℕ) : Type 0 where
 
 -- Of an input the reader read these first lines, and the source still has the rest. A byte past `most` belongs to no line.
 pub record IsAt (r : Reader) (input rest : List ℕ) (lines : List ReadLine) : Type 0 where
+  pub bound : r.taken ≤ r.most + 1
   pub within : r.taken ≤ length input
   pub source : rest ≡ drop r.taken input
   pub done : List ℕ
@@ -75,3 +78,15 @@ OnReadFault P Long = Unit {0}
 OnReadFault P End = Unit {0}
 OnReadFault P ReadFault = P
 OnReadFault P Spent = Unit {0}
+
+abbrev pub is_read_fault : Next → Bool
+is_read_fault (Line line) = false
+is_read_fault Long = false
+is_read_fault End = false
+is_read_fault ReadFault = true
+is_read_fault Spent = false
+
+-- the source failed; it did not where there was no memory
+abbrev pub failed_to_read : Result Next NoMemory → Bool
+failed_to_read (Ok next) = is_read_fault next
+failed_to_read (Err none) = false

@@ -1,13 +1,14 @@
 -- What a line gives, and how a reader moves on.
-use Rattle.std.specs.Prelude.{◌≡◌, ◌⊎◌, ℕ, ◌+◌, ◌-◌, ◌^◌, ◌<◌, ◌≤◌, ◌==◌, nat_lt, Bool, if◌then◌else◌, List, length, take, IsTrue, IsFalse}
+use Rattle.std.specs.Prelude.{◌≡◌, ◌⊎◌, ℕ, ◌+◌, ◌-◌, ◌<◌, ◌≤◌, ◌==◌, nat_lt, Bool, if◌then◌else◌, List, length, take, IsTrue, IsFalse}
+use Rattle.vbm_lines.specs.declared.lines.TheConstants.{LONGEST_LINE}
 use Rattle.vbm_lines.specs.Reader.{Reader}
 use Rattle.vbm_lines.specs.declared.reader.Next.{Next}
 use Rattle.vbm_lines.specs.declared.reader.Next.TheVariants.{Line, Long, End, ReadFault, Spent}
 
 -- what is given for a line of which these bytes are held, where others before them may have been let go
 abbrev pub IsNext : Next → Bool → List ℕ → Type 0
-IsNext (Line text) skipping line = IsFalse skipping × (length line ≤ 2 ^ 14) × (text ≡ line)
-IsNext Long skipping line = IsTrue skipping ⊎ (2 ^ 14 < length line)
+IsNext (Line text) skipping line = IsFalse skipping × (length line ≤ LONGEST_LINE) × (text ≡ line)
+IsNext Long skipping line = IsTrue skipping ⊎ (LONGEST_LINE < length line)
 IsNext End skipping line = ⊥
 IsNext ReadFault skipping line = ⊥
 IsNext Spent skipping line = ⊥

@@ -8,7 +8,7 @@ mod reader;
 mod window;
 
 pub use hexadecimal::hex_bytes;
-pub use lines::words_of;
+pub use lines::{LONGEST_LINE, words_of};
 pub use numbers::decimal;
 pub use reader::{Lines, Next};
 use vbm_ports::{Sequence, Text};

@@ -1,4 +1,4 @@
-//! The words of a line.
+//! The length of a line, and its words.
 
 ghost use Rattle.std.specs.Prelude.{◌≡◌, ◌≤◌, [], ◌∷◌, length, not, IfOk, MatchOption};
 ghost use Rattle.std.specs.List.{prefix_len};
@@ -7,6 +7,12 @@ ghost use Rattle.vbm_lines.specs.Lines.{is_blank, words_in};
 use crate::Words;
 use std::alloc::Global;
 use vbm_ports::{NoMemory, Sequence, Text};
+
+/// A line of more bytes is too long to be a command.
+pub const LONGEST_LINE: usize = 16384;
+
+// So many bytes with no newline are of a line that is too long, even if a carriage return is the last of them.
+pub(crate) const ABOVE: usize = LONGEST_LINE + 2;
 
 fn is_tab_or_space(b: u8) -> bool
     ensures { result ≡ is_blank b }

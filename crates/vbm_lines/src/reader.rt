@@ -2,29 +2,24 @@
 
 ghost use Rattle.std.specs.Prelude.{◌≡◌, ◌<◌, ◌≤◌, ◌+◌, ◌^◌, ℕ, List, length, take, IfOk, OnOk, OnErr, IsTrue, IsFalse};
 ghost use Rattle.std.specs.List.{list_any};
-ghost use Rattle.vbm_ports.specs.Counts.{Rose};
+ghost use Rattle.vbm_ports.specs.Counts.{Rose, IsCounted};
 ghost use Rattle.vbm_lines.specs.Lines.{is_newline, HasNoNewline, Line};
-ghost use Rattle.vbm_lines.specs.Reader.{new_reader, IsAt, Gives, OnReadFault, OnText, OnLine, left_over};
+ghost use Rattle.vbm_lines.specs.Reader.{new_reader, IsAt, Gives, OnReadFault, OnText, OnLine, failed_to_read, left_over};
 ghost use Rattle.vbm_lines.specs.Steps.{IsNext, counted_in, turns};
 ghost use Rattle.vbm_lines.specs.Window.{IsFirstNewline};
 
+use crate::lines::{ABOVE, LONGEST_LINE};
 use crate::window::{Window, newline_from, strip_return};
 use std::alloc::Global;
 use std::marker::Model;
 use vbm_ports::{Failed, NoMemory, Source, Text};
-
-// The longest line that is given.
-const LONGEST: usize = 16384;
-
-// So many bytes with no newline are of a line that is too long, even if a carriage return is the last of them.
-const ABOVE: usize = LONGEST + 2;
 
 /// What a source gives next.
 #[derive(Drop)]
 pub enum Next {
     /// A line, without the newline that ends it and one carriage return before that.
     Line(Text),
-    /// A line of more than 16384 bytes, which was taken to its end.
+    /// A line of more than [`LONGEST_LINE`] bytes, which was taken to its end.
     Long,
     /// All lines were read.
     End,
@@ -60,7 +55,7 @@ impl Model for Lines {
 fn next_of(alloc: Global, line: &[u8], skipping: bool) -> Result<Next, NoMemory>
     ensures { IfOk result (λ next. IsNext next skipping line.now) }
 {
-    if skipping || line.len() > LONGEST {
+    if skipping || line.len() > LONGEST_LINE {
         return Ok(Next::Long);
     }
     Ok(Next::Line(Text::new(alloc, line)?))
@@ -88,7 +83,7 @@ impl Lines {
         ensures lines { (input rest : List ℕ) (lines : List Line) → IsAt self.old input rest lines
             → IfOk result (λ next. Gives next self.new input rest lines) }
         ensures kept { OnErr result (self.new ≡ self.old) }
-        ensures short { IfOk result (OnText (λ line. length line ≤ 2 ^ 14)) }
+        ensures short { IfOk result (OnText (λ line. length line ≤ LONGEST_LINE)) }
         ensures less { OnOk result (left_over self.new < left_over self.old) }
         ensures no_fault { IfOk result (OnReadFault ⊥) }
         ensures frame { self.new ≡ record self.old { held = self.new.held; skipping = self.new.skipping } }
@@ -107,7 +102,7 @@ impl Lines {
         ensures lines { (input rest : List ℕ) (lines : List Line) → IsAt self.old input rest lines
             → IfOk result (λ next. Gives next self.new input rest lines) }
         ensures kept { OnErr result (self.new ≡ self.old) }
-        ensures short { IfOk result (OnText (λ line. length line ≤ 2 ^ 14)) }
+        ensures short { IfOk result (OnText (λ line. length line ≤ LONGEST_LINE)) }
         ensures less { IfOk result (OnLine (left_over self.new < left_over self.old)) }
         ensures no_fault { IfOk result (OnReadFault ⊥) }
         ensures frame { self.new ≡ record self.old { held = self.new.held; skipping = self.new.skipping } }
@@ -127,7 +122,7 @@ impl Lines {
         ensures lines { (input rest : List ℕ) (lines : List Line) → IsAt self.old input rest lines → IsAt self.new input rest lines }
         ensures none { HasNoNewline self.new.held }
         ensures held { result ≡ length self.new.held }
-        ensures space { length self.new.held < 16386 }
+        ensures space { length self.new.held < ABOVE }
         ensures left { left_over self.new ≤ left_over self.old }
         ensures frame { self.new ≡ record self.old { held = self.new.held; skipping = self.new.skipping } }
     {
@@ -157,7 +152,7 @@ impl Lines {
     fn take_more<S: Source>(&mut self, source: &mut S) -> Result<(), Failed>
         requires more { IsFalse self.old.ended }
         requires within { self.old.taken ≤ self.old.most }
-        requires space { length self.old.held < 16386 }
+        requires space { length self.old.held < ABOVE }
         ensures lines { S.tells → (input : List ℕ) (lines : List Line) → IsAt self.old input (S.rest source.old) lines
             → IsAt self.new input (S.rest source.new) lines }
         ensures kept { OnErr result (self.new ≡ self.old) }
@@ -167,6 +162,7 @@ impl Lines {
         ensures turn { OnOk result (turns self.new < turns self.old) }
         ensures faults { S.faults source.old ≤ S.faults source.new }
         ensures cause { OnErr result (Rose (S.faults source.old) (S.faults source.new)) }
+        ensures no_fault { OnOk result (S.faults source.new ≡ S.faults source.old) }
     {
         let n = self.window.take_more(source, self.most + 1 - self.taken)?;
         self.count(n);
@@ -174,20 +170,19 @@ impl Lines {
     }
 
     /// Reads the next line. No more than one byte past `most` is ever taken, and none while a whole line is held or after the end.
-    /// Without memory the bytes that were taken are kept.
+    /// Without memory the bytes that were taken are kept, and the source has not failed.
     pub fn next_line<S: Source>(&mut self, source: &mut S) -> Result<Next, NoMemory>
         ensures lines { S.tells → (input : List ℕ) (lines : List Line) → IsAt self.old input (S.rest source.old) lines
             → IfOk result (λ next. Gives next self.new input (S.rest source.new) lines) }
         ensures kept { S.tells → (input : List ℕ) (lines : List Line) → IsAt self.old input (S.rest source.old) lines
             → OnErr result (IsAt self.new input (S.rest source.new) lines) }
-        ensures short { IfOk result (OnText (λ line. length line ≤ 2 ^ 14)) }
+        ensures short { IfOk result (OnText (λ line. length line ≤ LONGEST_LINE)) }
         ensures less { IfOk result (OnLine (left_over self.new < left_over self.old)) }
         ensures bound { self.new.taken ≤ self.new.most + 1 }
         ensures most { self.new.most ≡ self.old.most }
         ensures whole_line_held { IsTrue (list_any is_newline self.old.held) → source.new ≡ source.old }
         ensures after_end { IsTrue self.old.ended → source.new ≡ source.old }
-        ensures faults { S.faults source.old ≤ S.faults source.new }
-        ensures cause { IfOk result (OnReadFault (Rose (S.faults source.old) (S.faults source.new))) }
+        ensures counted { IsCounted (failed_to_read result) (S.faults source.old) (S.faults source.new) }
     {
         let mut from = 0;
         'takes: loop {

@@ -6,6 +6,7 @@ ghost use Rattle.vbm_ports.specs.Counts.{Rose};
 ghost use Rattle.vbm_lines.specs.Lines.{is_newline, HasNoNewline};
 ghost use Rattle.vbm_lines.specs.Window.{without_return, IsFirstNewline, Extends, Fills};
 
+use crate::lines::ABOVE;
 use std::marker::Model;
 use vbm_ports::{Failed, Source};
 
@@ -79,6 +80,7 @@ fn take_at<S: Source>(
     ensures len { length room.new ≡ length room.old }
     ensures faults { S.faults source.old ≤ S.faults source.new }
     ensures cause { OnErr result (Rose (S.faults source.old) (S.faults source.new)) }
+    ensures no_fault { IfOk result (λ _. S.faults source.new ≡ S.faults source.old) }
 {
     source.take(&mut room[at..at + most])
 }
@@ -148,7 +150,7 @@ impl Window {
 
     /// Moves the bytes to the front of the room where little is free behind them.
     fn make_space(&mut self)
-        requires { length self.old.bytes < 16386 }
+        requires { length self.old.bytes < ABOVE }
         ensures same { self.new.bytes ≡ self.old.bytes }
         ensures free { 0 < self.new.free }
     {
@@ -172,6 +174,7 @@ impl Window {
         ensures bound { IfOk result (λ n. n ≤ most) }
         ensures faults { S.faults source.old ≤ S.faults source.new }
         ensures cause { OnErr result (Rose (S.faults source.old) (S.faults source.new)) }
+        ensures no_fault { IfOk result (λ _. S.faults source.new ≡ S.faults source.old) }
     {
         let most = at_most(most, ROOM - self.end);
         let n = take_at(source, &mut self.room, self.end, most)?;
@@ -182,7 +185,7 @@ impl Window {
     /// Takes at most `most` bytes behind those that are held.
     pub fn take_more<S: Source>(&mut self, source: &mut S, most: u64) -> Result<usize, Failed>
         requires some { 0 < most }
-        requires space { length self.old.bytes < 16386 }
+        requires space { length self.old.bytes < ABOVE }
         ensures ok { S.tells → IfOk result (λ n. Extends (S.rest source.old) (S.rest source.new) self.old.bytes self.new.bytes n) }
         ensures err { S.tells → OnErr result (S.rest source.new ≡ S.rest source.old) }
         ensures before { take (length self.old.bytes) self.new.bytes ≡ self.old.bytes }
@@ -191,6 +194,7 @@ impl Window {
         ensures bound { IfOk result (λ n. n ≤ most) }
         ensures faults { S.faults source.old ≤ S.faults source.new }
         ensures cause { OnErr result (Rose (S.faults source.old) (S.faults source.new)) }
+        ensures no_fault { IfOk result (λ _. S.faults source.new ≡ S.faults source.old) }
     {
         self.make_space();
         self.fill(source, most)

@@ -12,7 +12,7 @@ invariant-takes g l = record {
   searched : HasNoNewline (take l.from l.self.held);
   most : l.self.most ≡ l.fn.self.most;
   left : left_over l.self ≤ left_over l.fn.self;
-  faults : g.S.Source.faults l.fn.source ≤ g.S.Source.faults l.source;
+  faults : g.S.Source.faults l.source ≡ g.S.Source.faults l.fn.source;
   taken : ((l.self ≡ l.fn.self) × (l.source ≡ l.fn.source)) ⊎ (HasNoNewline l.fn.self.held × IsFalse l.fn.self.ended);
 }
 
