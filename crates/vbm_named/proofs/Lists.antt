@@ -1,6 +1,6 @@
 -- Lists by name.
-use Rattle.std.proofs.Common.{◌≡◌, ◌+◌, ◌≤◌, Bool, true, false, not, cond, ◌||◌, List, [], ◌∷◌, ◌++◌, map, length, Option, Some, None, refl, sym, ap, subst, ◌∙◌, arith, is_some, is_eq, IsTrue, IsFalse}
-use Rattle.std.specs.List.{AllByRecursion, list_any}
+use Rattle.std.proofs.Common.{◌≡◌, ℕ, zero, suc, ◌+◌, ◌≤◌, Bool, true, false, not, cond, ◌||◌, List, [], ◌∷◌, ◌++◌, map, length, Option, Some, None, refl, sym, ap, subst, ◌∙◌, arith, is_some, is_eq, IsTrue, IsFalse}
+use Rattle.std.specs.List.{AllByRecursion, list_any, slice_get}
 use Rattle.std.specs.Option.{option_map}
 use Rattle.std.specs.Str.{bytes_eq}
 use Rattle.std.specs.Ordering.{nat_cmp, ordering_reverse}
@@ -10,9 +10,13 @@ use Rattle.std.specs.declared.cmp.Ordering.TheVariants.{Less, Equal, Greater}
 use Rattle.std.proofs.lemmas.Bool.{or_parts, not-true, not-false, cond_both}
 use Rattle.std.proofs.lemmas.Cmp.{nat_list_cmp_total, nat_list_eq_equiv}
 use Rattle.std.proofs.lemmas.Map.Text.{is_eq-slice_cmp}
+use Rattle.std.proofs.lemmas.Slice.Eq.{bytes_eq-Decides}
 use Rattle.vbm_named.specs.Names.{Name, is_less, is_before, is_named, find_by, has_name, put_by, without, change_by, Rises}
 
 -- ---- names
+
+pub same_name : (a b : Name) → bytes_eq a b ≡ true → a ≡ b
+same_name a b = (bytes_eq-Decides a b).0
 
 pub name_refl : (a : Name) → bytes_eq a a ≡ true
 name_refl a = nat_list_eq_equiv.refl a
@@ -71,6 +75,12 @@ module _ {X : Type 0} where
   All-push P [] x all h = (h, tt)
   All-push P (y ∷ ys) x all h = (all.0, All-push P ys x all.1 h)
 
+  -- what holds of each holds of the one at a place
+  pub All-get : (P : X → Type 0) (xs : List X) (i : ℕ) (x : X) → AllByRecursion P xs → slice_get xs i ≡ Some x → P x
+  All-get P [] i x all at = absurd cc
+  All-get P (y ∷ ys) zero x all at = let same : y ≡ x = cc in subst P same all.0
+  All-get P (y ∷ ys) (suc i) x all at = All-get P ys i x all.1 at
+
 module _ {X Y : Type 0} (f : X → Y) where
   pub All-of_map : (P : Y → Type 0) (xs : List X) → AllByRecursion (λ x. P (f x)) xs → AllByRecursion P (map f xs)
   All-of_map P [] all = tt
@@ -121,6 +131,11 @@ module _ {X : Type 0} (nx : X → Name) where
   )
 
   -- ---- the order of names
+
+  -- the items behind one have other names
+  pub behind_others : (x : X) (xs : List X) → AllByRecursion (λ y. IsTrue (is_before (nx x) (nx y))) xs
+      → AllByRecursion (λ y. bytes_eq (nx y) (nx x) ≡ false) xs
+  behind_others x xs behind = All-map _ (λ y. bytes_eq (nx y) (nx x) ≡ false) (λ y h. name_sym (nx y) (nx x) ∙ before_other (nx x) (nx y) h) xs behind
 
   -- each item is before a name
   abbrev pub ComesAfter : Name → List X → Type 0
@@ -205,10 +220,58 @@ module _ {X : Type 0} (nx : X → Name) where
   rises_without name (x ∷ xs) rises = without_cases name x xs (Rises nx)
       (λ e. rises_without name xs rises.1) (λ e. (All-without _ name xs rises.0, rises_without name xs rises.1))
 
+  -- nothing goes where none has the name
+  pub without_none : (name : Name) (xs : List X) → AllByRecursion (λ x. bytes_eq (nx x) name ≡ false) xs → without nx name xs ≡ xs
+  without_none name [] others = refl
+  without_none name (x ∷ xs) others = rw others.0 (ap (λ l. x ∷ l) (without_none name xs others.1))
+
   pub length-without : (name : Name) (xs : List X) → length (without nx name xs) ≤ length xs
   length-without name [] = omega arith
   length-without name (x ∷ xs) = without_cases name x xs (λ l. length l ≤ length (x ∷ xs))
       (λ e. omega (arith, length-without name xs)) (λ e. omega (arith, length-without name xs))
+
+-- ---- an item in another form
+
+not_turned : (a b : Name) → IsTrue (is_before a b) → is_before b a ≡ false
+not_turned a b less = elim (is_before b a) as (λ t. is_before b a ≡ t → t ≡ false) [
+  | true ↦ λ e. let both : true ≡ false = sym (name_refl a) ∙ before_other a a (before_trans a b a less e) in absurd cc
+  | false ↦ λ e. refl
+] refl
+
+module _ {X : Type 0} (nx : X → Name) where
+  change_none : (name : Name) (x : X) (xs : List X) → AllByRecursion (λ y. bytes_eq (nx y) name ≡ false) xs → change_by nx name (λ y. x) xs ≡ xs
+  change_none name x [] others = refl
+  change_none name x (y ∷ ys) others = rw others.0 (ap (λ l. y ∷ l) (change_none name x ys others.1))
+
+  put_first : (x : X) (xs : List X) → AllByRecursion (λ y. IsTrue (is_before (nx x) (nx y))) xs → put_by nx x xs ≡ x ∷ xs
+  unfolding put_by
+  put_first x [] all = refl
+  put_first x (y ∷ ys) all = rw all.0 refl
+
+  behind_it : (y x : X) (ys : List X) → AllByRecursion (λ z. IsTrue (is_before (nx y) (nx z))) ys
+      → has_name nx (nx x) ys ≡ true → IsTrue (is_before (nx y) (nx x))
+  behind_it y x ys all has = elim (find_by nx (nx x) ys) as (λ o. find_by nx (nx x) ys ≡ o → is_some o ≡ true → IsTrue (is_before (nx y) (nx x))) [
+    | None ↦ λ e h. absurd cc
+    | Some z ↦ λ e h.
+        subst (λ n. IsTrue (is_before (nx y) n)) (same_name (nx z) (nx x) (find_named nx (nx x) z ys e)) (All-find nx _ (nx x) z ys all e)
+  ] refl (sym (has_found nx (nx x) ys) ∙ has)
+
+  -- what is taken out and put back in another form stands where it stood
+  pub put_without : (x : X) (xs : List X) → Rises nx xs → has_name nx (nx x) xs ≡ true
+      → put_by nx x (without nx (nx x) xs) ≡ change_by nx (nx x) (λ y. x) xs
+  unfolding put_by
+  put_without x [] rises has = absurd cc
+  put_without x (y ∷ ys) rises has = elim (bytes_eq (nx y) (nx x)) as (λ b. bytes_eq (nx y) (nx x) ≡ b → b || has_name nx (nx x) ys ≡ true
+      → put_by nx x (cond (not b) (y ∷ without nx (nx x) ys) (without nx (nx x) ys)) ≡ cond b x y ∷ change_by nx (nx x) (λ z. x) ys) [
+        | true ↦ λ e h.
+            let same : nx y ≡ nx x = same_name (nx y) (nx x) e in
+            let behind : AllByRecursion (λ z. IsTrue (is_before (nx x) (nx z))) ys =
+            subst (λ n. AllByRecursion (λ z. IsTrue (is_before n (nx z))) ys) same rises.0 in
+            let others = All-map _ (λ z. bytes_eq (nx z) (nx x) ≡ false) (λ z b. name_sym (nx z) (nx x) ∙ before_other (nx x) (nx z) b) ys behind in
+            rw (without_none nx (nx x) ys others, change_none (nx x) x ys others) (put_first x ys behind)
+        | false ↦ λ e h.
+            rw (not_turned (nx y) (nx x) (behind_it y x ys rises.0 h)) (ap (λ l. y ∷ l) (put_without x ys rises.1 h))
+      ] refl has
 
 -- ---- maps that keep names
 
