@@ -14,7 +14,7 @@ use Rattle.vbm_volume.specs.Made.{made_image}
 use Rattle.vbm_volume.specs.declared.flat.Variant.TheVariants.{Standard}
 use Rattle.vbm_volume.proofs.NewImages.{made_accepted, made_flat}
 use Rattle.vbm_ids.specs.declared.Kind.TheVariants as kinds
-use Rattle.vbm_ids.specs.Identifier.{identifier_of}
+use Rattle.vbm_ids.specs.Identifier.{identifier_of, is_foreign}
 use Rattle.vbm_intent.specs.declared.change.Change.{Change}
 use Rattle.vbm_intent.specs.Changes.{of_file, changed}
 use Rattle.vbm_world.specs.declared.command.Command.TheVariants.{CreateMedium}
@@ -23,7 +23,7 @@ use Rattle.vbm_world.specs.declared.command.Answer.TheVariants.{Id}
 use Rattle.vbm_world.specs.declared.command.Size.{Size}
 use Rattle.vbm_named.specs.Names.{Name, has_name, put_by}
 use Rattle.vbm_world.specs.World.{World, medium_name, zero_disk}
-use Rattle.vbm_world.specs.Refusals.{capacity_of, is_bad_size, is_foreign, first_refusal, create_checks}
+use Rattle.vbm_world.specs.Refusals.{capacity_of, is_bad_size, first_refusal, create_checks}
 use Rattle.vbm_world.specs.Step.{Outcome, step_of, made_medium, refused_or}
 use Rattle.vbm_named.proofs.Lists.{name_sym, put_map}
 use Rattle.vbm_registry.specs.declared.media.Medium.{Medium}

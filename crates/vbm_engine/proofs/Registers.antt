@@ -22,8 +22,9 @@ use Rattle.vbm_registry.proofs.Again.{read_again}
 use Rattle.vbm_registry.proofs.Stores.{SameBesides, SameFiles, same_media, header_frame, header_of_file, own_of_file, store_put, library_put}
 use Rattle.vbm_registry.proofs.Worlds.{is_medium_with, has_id_with, on_shelf, shelved_of_file, medium_of_file, world_put}
 use Rattle.vbm_named.specs.Names.{Name, find_by, has_name, put_by}
-use Rattle.vbm_world.specs.World.{World, medium_name, with_shelved}
-use Rattle.vbm_world.specs.Refusals.{first_refusal, file_checks, is_foreign, has_id, is_full}
+use Rattle.vbm_world.specs.World.{World, medium_id, medium_name, with_shelved}
+use Rattle.vbm_ids.specs.Identifier.{is_foreign, has_id}
+use Rattle.vbm_world.specs.Refusals.{first_refusal, file_checks, is_full}
 use Rattle.vbm_world.specs.Step.{Outcome, refused_or, opened, step_of}
 use Rattle.vbm_world.specs.Loose.{all_settled, is_refused}
 use Rattle.vbm_world.specs.declared.command.Answer.TheVariants.{Id, Refused}
@@ -114,7 +115,7 @@ module _ (e : Engine) (files : Files) (name : Name) (holds : Holds e.library e.i
       let f = file_read files name (Err bad) (files name) refl read in
       refuses e files name (NotAnImage (condition_number bad)) (sym (opens ∙ rw (f.there, shelved_of_file f.file (Err bad) f.is) refl))
 
-  has_id_here : (id : List ℕ) → has_id (serves e files) id ≡ list_any (λ (i : Image). bytes_eq i.header.id id) e.images
+  has_id_here : (id : List ℕ) → has_id medium_id id (serves e files).media ≡ list_any (λ (i : Image). bytes_eq i.header.id id) e.images
   has_id_here id =
       has_id_with none_changed e.library files id
       ∙ sym (ap (list_any (λ (i : Image). bytes_eq i.header.id id)) holds.headers

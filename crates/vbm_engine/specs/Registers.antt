@@ -6,7 +6,8 @@ use Rattle.vbm_header.specs.declared.Header.{Header}
 use Rattle.vbm_header.specs.Header.{is_differencing}
 use Rattle.vbm_world.specs.declared.command.Refusal.TheVariants.{DuplicateId, ForeignId, Full, BrokenChain}
 use Rattle.vbm_world.specs.declared.command.Which.TheVariants.{Media}
-use Rattle.vbm_world.specs.Refusals.{Check, is_foreign}
+use Rattle.vbm_ids.specs.Identifier.{is_foreign}
+use Rattle.vbm_world.specs.Refusals.{Check}
 use Rattle.vbm_registry.specs.declared.library.Library.{Library}
 use Rattle.vbm_engine.specs.declared.engine.Image.{Image}
 

@@ -1,7 +1,7 @@
 //! Identifiers of the library's own seed.
 
 ghost use Rattle.std.specs.Prelude.{◌≡◌};
-ghost use Rattle.vbm_world.specs.Refusals.{is_foreign};
+ghost use Rattle.vbm_ids.specs.Identifier.{is_foreign};
 
 use uuid::Uuid;
 use vbm_ids::{Kind, number_of};

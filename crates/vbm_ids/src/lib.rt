@@ -2,12 +2,12 @@
 //! kind and a number.
 #![tactic(auto)]
 
-ghost use Rattle.std.specs.Prelude.{◌≡◌, ◌≢◌, ◌%◌, ◌<◌, ◌^◌, ℕ, drop, slice_index, MatchOption};
+ghost use Rattle.std.specs.Prelude.{◌≡◌, ◌≢◌, ◌%◌, ◌<◌, ℕ, List, drop, slice_index, MatchOption};
 ghost use Rattle.std.specs.Int.{w64, from_be_bytes};
 ghost use Rattle.uuid.specs.Uuid.{version_num};
 ghost use Rattle.uuid.specs.Parts.{variant_of};
 ghost use Rattle.uuid.specs.declared.Variant.TheVariants as Variant;
-ghost use Rattle.vbm_ids.specs.Identifier.{identifier_of, counted_in, number_in};
+ghost use Rattle.vbm_ids.specs.Identifier.{identifier_of, counted_in, number_in, is_not_below, is_foreign, has_id};
 
 use uuid::Uuid;
 
@@ -40,12 +40,12 @@ impl Kind {
     }
 }
 
-/// The identifier of a kind and a number, which is below 2^62.
+/// The identifier of a kind and a number, which is below [`NUMBER_LIMIT`].
 ///
 /// For one seed, two kinds or two numbers never have the same identifier.
 #[tactic(auto, unfolding(crate::specs::Identifier::identifier_of))]
 pub fn id_of(seed: Uuid, kind: Kind, n: u64) -> Uuid
-    requires { n < 2 ^ 62 }
+    requires { n < NUMBER_LIMIT }
     ensures bytes { result ≡ identifier_of seed kind n }
     ensures version { version_num result ≡ 8 }
     ensures variant { variant_of (slice_index result 8) ≡ Variant.RFC4122 }
@@ -61,8 +61,8 @@ pub fn id_of(seed: Uuid, kind: Kind, n: u64) -> Uuid
 #[tactic(auto, unfolding(crate::specs::Identifier::number_in))]
 pub fn number_of(seed: Uuid, kind: Kind, id: Uuid) -> Option<u64>
     ensures exact { MatchOption result
-        ((n : ℕ) → n < 2 ^ 62 → id ≢ identifier_of seed kind n)
-        (λ n. (n < 2 ^ 62) × (id ≡ identifier_of seed kind n)) }
+        ((n : ℕ) → n < NUMBER_LIMIT → id ≢ identifier_of seed kind n)
+        (λ n. (n < NUMBER_LIMIT) × (id ≡ identifier_of seed kind n)) }
     ensures defined { result ≡ number_in seed kind id }
 {
     let n = counted(id);
@@ -76,8 +76,44 @@ pub fn number_of(seed: Uuid, kind: Kind, id: Uuid) -> Option<u64>
 // The number that an identifier has, if it is one.
 fn counted(id: Uuid) -> u64
     ensures value { result ≡ counted_in id }
-    ensures small { result < 2 ^ 62 }
+    ensures small { result < NUMBER_LIMIT }
 {
     let b = id.into_bytes();
     u64::from_be_bytes([b[8], b[9], b[10], b[11], b[12], b[13], b[14], b[15]]) % NUMBER_LIMIT
+}
+
+// Whether a number that an identifier has is one that was not drawn.
+fn is_not_below(next: u64, number: Option<u64>) -> bool
+    ensures { result ≡ is_not_below next number }
+{
+    match number {
+        Some(n) => next <= n,
+        None => false,
+    }
+}
+
+/// Whether an identifier is of this seed and was given to no medium, where the numbers below `next` were given.
+pub fn is_foreign(seed: Uuid, next: u64, id: Uuid) -> bool
+    ensures { result ≡ is_foreign seed next id }
+{
+    number_of(seed, Kind::Modify, id).is_some()
+        || number_of(seed, Kind::Inner, id).is_some()
+        || number_of(seed, Kind::InnerModify, id).is_some()
+        || is_not_below(next, number_of(seed, Kind::Medium, id))
+}
+
+/// A type whose values have identifiers.
+pub trait Identified {
+    ghost id_of: { Self → List ℕ };
+
+    /// The identifier.
+    fn id(&self) -> Uuid
+        ensures { result ≡ id_of self.now };
+}
+
+/// Whether some item has the identifier.
+pub fn has_id<T: Identified>(items: &[T], id: Uuid) -> bool
+    ensures { result ≡ has_id T.id_of id items.now }
+{
+    items.iter().any(|item| item.id() == id)
 }

@@ -1,12 +1,13 @@
 //! The library's file, and files that are none.
 
 ghost use Rattle.std.specs.Prelude.{IfOk};
-ghost use Rattle.vbm_registry.specs.Library.{IsLibrary};
+ghost use Rattle.vbm_registry.specs.Library.{IsLibrary, IsQuiet};
 
 use std::alloc::Global;
 use std::process::Abort;
 use std::test::Fail;
 use uuid::Uuid;
+use vbm_ids::NUMBER_LIMIT;
 use vbm_machines::Machines;
 use vbm_ports::Sequence;
 use vbm_registry::{DecodeFault, Library, Media, decode, encode};
@@ -22,10 +23,11 @@ const FIVE: &[u8] =
     b"\x05\0\x06A0.vdi\0\x08a-._.vdi\0\x05a.vdi\0\x05b.vdi\0\x07zz9.vdi\0\0\0\0\0\0\0";
 
 /// The largest numbers that a library can have drawn.
-const MOST: u64 = 1 << 62;
+const MOST: u64 = NUMBER_LIMIT;
 
 fn empty_library(alloc: Global) -> Library
-    ensures { IsLibrary result }
+    ensures rules { IsLibrary result }
+    ensures quiet { IsQuiet result }
 {
     Library {
         seed: Uuid::from_bytes(SEED),

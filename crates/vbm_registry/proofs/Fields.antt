@@ -1,10 +1,12 @@
 -- A number that is written is read again, and one that is read is the one that was written.
 use Rattle.std.proofs.Common.{◌≡◌, ℕ, suc, ◌+◌, ◌%◌, ◌^◌, ◌<◌, ◌≤◌, Bool, true, false, cond, ltb, List, [], ◌∷◌, ◌++◌, length, get_or, take, drop, Result, Ok, Err, refl, sym, ap, subst, arith, inl, inr}
 use Rattle.std.specs.Int.{Width, w8, w16, w64, byte_len, from_le_bytes, to_le_bytes}
-use Rattle.std.proofs.lemmas.Bool.{cases_lt, ltb-false, le-ltb}
+use Rattle.std.specs.List.{All, AllByRecursion}
+use Rattle.std.proofs.lemmas.Bool.{cases_lt, ltb-false, ltb-true, lt-ltb, le-ltb, and_parts}
+use Rattle.std.proofs.lemmas.List.Elements.{All-from_recursion, recursion_from_All}
 use Rattle.std.proofs.lemmas.List.{take_at, drop_at, take-append-drop, length-append, length-take, get_or-drop, get_or-take, get_or_past}
 use Rattle.std.proofs.lemmas.Nat.{le_bytes_2, le_bytes_8, from_le_bytes-to_le_bytes_2, from_le_bytes-to_le_bytes_8}
-use Rattle.vbm_registry.specs.Reading.{◌>>=◌, number_at, limited_at}
+use Rattle.vbm_registry.specs.Reading.{◌>>=◌, number_at, limited_at, are_bytes}
 
 -- every item is a byte
 abbrev pub IsBytes : List ℕ → Type 0
@@ -22,6 +24,28 @@ IsBytes-take n bytes h i =
 
 pub IsBytes-rest : (b : ℕ) (bytes : List ℕ) → IsBytes (b ∷ bytes) → IsBytes bytes
 IsBytes-rest b bytes h i = h (suc i)
+
+fit_all : (bytes : List ℕ) → IsBytes bytes → are_bytes bytes ≡ true
+fit_all [] fits = refl
+fit_all (b ∷ bytes) fits = rw (lt-ltb b 256 (fits 0), fit_all bytes (IsBytes-rest b bytes fits)) refl
+
+pub fit_front : (n : ℕ) (bytes : List ℕ) → IsBytes bytes → are_bytes (take n bytes) ≡ true
+fit_front n bytes fits = fit_all (take n bytes) (IsBytes-take n bytes fits)
+
+are_each : (bytes : List ℕ) → are_bytes bytes ≡ true → AllByRecursion (λ b. b < 256) bytes
+are_each [] are = tt
+are_each (b ∷ bytes) are = let parts = and_parts (ltb b 256) (are_bytes bytes) are in (ltb-true b 256 parts.0, are_each bytes parts.1)
+
+each_are : (bytes : List ℕ) → AllByRecursion (λ b. b < 256) bytes → are_bytes bytes ≡ true
+each_are [] each = refl
+each_are (b ∷ bytes) each = rw (lt-ltb b 256 each.0, each_are bytes each.1) refl
+
+-- the test of bytes tells
+pub bytes_are : (bytes : List ℕ) → are_bytes bytes ≡ true → All (λ b. b < 256) bytes
+bytes_are bytes are = All-from_recursion (λ b. b < 256) bytes (are_each bytes are)
+
+pub are_bytes_all : (bytes : List ℕ) → All (λ b. b < 256) bytes → are_bytes bytes ≡ true
+are_bytes_all bytes all = each_are bytes (recursion_from_All (λ b. b < 256) bytes all)
 
 -- the value of a step that did not fail
 pub bind_ok : {A B : Type 0} (r : Result A ℕ) (f : A → Result B ℕ) (y : B) → (r >>= f) ≡ Ok y → (x : A) × (r ≡ Ok x) × (f x ≡ Ok y)

@@ -8,11 +8,13 @@ use Rattle.std.proofs.lemmas.Bool.Decides.{nat_tests}
 use Rattle.vbm_ports.specs.Names.{is_medium_name}
 use Rattle.vbm_modes.specs.declared.Mode.{Mode}
 use Rattle.vbm_modes.specs.declared.Mode.TheVariants.{Normal}
+use Rattle.vbm_ids.specs.Identifier.{IsSeed}
 use Rattle.vbm_named.specs.Names.{Name, is_before, Rises}
+use Rattle.vbm_world.specs.declared.refusals.TheConstants.{MEDIA_LIMIT}
 use Rattle.vbm_registry.specs.declared.media.Medium.{Medium}
 use Rattle.vbm_registry.specs.Library.{medium_entry_name, name_onto, medium_onto, mode_code, items_onto, list_onto, no_more, IsListed}
-use Rattle.vbm_registry.specs.Reading.{◌>>=◌, limited_at, seed_at, name_at, mode_at, medium_at, items_at, media_at, no_more_at}
-use Rattle.vbm_registry.proofs.Fields.{IsBytes, IsBytes-drop, IsBytes-rest, bind_ok, guard_ok, guard_true, ok_is, Takes, wide8, wide16, limited_takes, limited_again}
+use Rattle.vbm_registry.specs.Reading.{◌>>=◌, limited_at, are_bytes, seed_at, name_at, mode_at, medium_at, items_at, media_at, no_more_at}
+use Rattle.vbm_registry.proofs.Fields.{IsBytes, IsBytes-drop, IsBytes-rest, fit_front, bytes_are, are_bytes_all, bind_ok, guard_ok, guard_true, ok_is, Takes, wide8, wide16, limited_takes, limited_again}
 use Rattle.vbm_registry.proofs.Items.{items_again, items_takes}
 use Rattle.vbm_registry.proofs.Names.{ComesBefore, Follows, linked_rises, rises_linked}
 
@@ -52,21 +54,21 @@ before_first : (ms : List Medium) → AllByRecursion IsListed ms → ComesBefore
 before_first [] all = tt
 before_first (m ∷ ms) all = (after_nothing m.name (long_name m.name all.0.name), before_first ms all.1)
 
-pub media_again : (ms : List Medium) (rest : List ℕ) → length ms ≤ 1024 → AllByRecursion IsListed ms → Rises medium_entry_name ms
+pub media_again : (ms : List Medium) (rest : List ℕ) → length ms ≤ MEDIA_LIMIT → AllByRecursion IsListed ms → Rises medium_entry_name ms
     → media_at (list_onto w16 medium_onto ms rest) ≡ Ok (ms, rest)
 unfolding media_at
 media_again ms rest few all rises =
     let after = items_onto medium_onto ms rest in
-    let count : limited_at w16 1024 (list_onto w16 medium_onto ms rest) ≡ Ok (length ms, after) =
-    limited_again w16 (2 ^ 16) wide16 1024 (length ms) after (omega (arith, few)) few in
+    let count : limited_at w16 MEDIA_LIMIT (list_onto w16 medium_onto ms rest) ≡ Ok (length ms, after) =
+    limited_again w16 (2 ^ 16) wide16 MEDIA_LIMIT (length ms) after (omega (arith, few)) few in
     rw count (items_again medium_at medium_entry_name medium_onto IsNext medium_again [] ms rest
     (rises_linked medium_entry_name IsListed [] ms (before_first ms all) rises all))
 
-pub seed_again : (seed rest : List ℕ) → length seed ≡ 16 → seed_at (seed ++ rest) ≡ Ok (seed, rest)
+pub seed_again : (seed rest : List ℕ) → IsSeed seed → seed_at (seed ++ rest) ≡ Ok (seed, rest)
 unfolding seed_at
-seed_again seed rest len =
-    let long : ltb (length (seed ++ rest)) 16 ≡ false = le-ltb _ _ (omega (arith, length-append seed rest)) in
-    rw (long, take_at seed rest 16 len, drop_at seed rest 16 len) refl
+seed_again seed rest is =
+    let long : ltb (length (seed ++ rest)) 16 ≡ false = le-ltb _ _ (omega (arith, length-append seed rest, is.long)) in
+    rw (long, take_at seed rest 16 is.long, drop_at seed rest 16 is.long, are_bytes_all seed is.bytes) refl
 
 -- ---- taken
 
@@ -74,13 +76,26 @@ and_both : (a b : Bool) → (a && b) ≡ true → (a ≡ true) × (b ≡ true)
 and_both true b e = (refl, e)
 and_both false b e = absurd cc
 
-pub seed_takes : (bytes : List ℕ) (x : List ℕ × List ℕ) → seed_at bytes ≡ Ok x → Takes bytes (x.0 ++ x.1) x.1 (length x.0 ≡ 16)
+-- sixteen bytes from the front of a file
+pub seed_read : (bytes front rest : List ℕ) → IsBytes bytes → 16 ≤ length bytes → front ≡ take 16 bytes → rest ≡ drop 16 bytes
+    → seed_at bytes ≡ Ok (front, rest)
+unfolding seed_at
+seed_read bytes front rest fits long first behind = rw (le-ltb (length bytes) 16 long, fit_front 16 bytes fits, first, behind) refl
+
+pub seed_takes : (bytes : List ℕ) (x : List ℕ × List ℕ) → seed_at bytes ≡ Ok x → Takes bytes (x.0 ++ x.1) x.1 (IsSeed x.0)
 unfolding seed_at
 seed_takes bytes x e =
-    let g = guard_ok (ltb (length bytes) 16) (length bytes) (Ok (take 16 bytes, drop 16 bytes)) x e in
-    let len : length (take 16 bytes) ≡ 16 = omega (arith, length-take 16 bytes, ltb-false _ _ g.0) in
-    subst (λ (y : List ℕ × List ℕ). Takes bytes (y.0 ++ y.1) y.1 (length y.0 ≡ 16)) (ok_is _ x g.1)
-    (record { parts = λ fits. sym (take-append-drop 16 bytes); rest_fits = IsBytes-drop 16 bytes; holds = len })
+    let front = take 16 bytes in
+    let left = length bytes in
+    let taken : List ℕ × List ℕ = (front, drop 16 bytes) in
+    let g = guard_ok (ltb left 16) left (cond (are_bytes front) (Ok taken) (Err left)) x e in
+    let h = guard_true (are_bytes front) left (Ok taken) x g.1 in
+    let len : length front ≡ 16 = omega (arith, length-take 16 bytes, ltb-false _ _ g.0) in
+    subst (λ (y : List ℕ × List ℕ). Takes bytes (y.0 ++ y.1) y.1 (IsSeed y.0)) (ok_is taken x h.1) (record {
+      parts = λ fits. sym (take-append-drop 16 bytes);
+      rest_fits = IsBytes-drop 16 bytes;
+      holds = record { long = len; bytes = bytes_are front h.0 };
+    })
 
 name_takes : (earlier bytes : List ℕ) (x : Name × List ℕ) → name_at earlier bytes ≡ Ok x
     → Takes bytes (name_onto x.0 x.1) x.1 (IsTrue (is_medium_name x.0) × IsTrue (is_before earlier x.0))
@@ -117,7 +132,7 @@ medium_takes earlier bytes x e =
 
 -- what the rules say of a list of media
 pub record AreMedia (ms : List Medium) : Type 0 where
-  pub count : length ms ≤ 1024
+  pub count : length ms ≤ MEDIA_LIMIT
   pub rises : Rises medium_entry_name ms
   pub each : AllByRecursion IsListed ms
 
@@ -125,8 +140,8 @@ pub media_takes : (bytes : List ℕ) (x : List Medium × List ℕ) → media_at 
     → Takes bytes (list_onto w16 medium_onto x.0 x.1) x.1 (AreMedia x.0)
 unfolding media_at
 media_takes bytes x e =
-    let a = bind_ok (limited_at w16 1024 bytes) (λ count. items_at medium_at medium_entry_name count.0 [] count.1) x e in
-    let t = limited_takes w16 (2 ^ 16) wide16 1024 bytes a.0 a.1 in
+    let a = bind_ok (limited_at w16 MEDIA_LIMIT bytes) (λ count. items_at medium_at medium_entry_name count.0 [] count.1) x e in
+    let t = limited_takes w16 (2 ^ 16) wide16 MEDIA_LIMIT bytes a.0 a.1 in
     let u = items_takes medium_at medium_entry_name medium_onto IsNext medium_takes a.0.0 [] a.0.1 x a.2 in
     let rules = linked_rises medium_entry_name IsListed [] x.0 u.holds.1 in
     record {

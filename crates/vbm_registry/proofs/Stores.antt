@@ -17,13 +17,15 @@ use Rattle.vbm_ids.specs.Identifier.{number_in}
 use Rattle.vbm_intent.specs.Changes.{log_name}
 use Rattle.vbm_intent.specs.Log.{Redo, closed, pending, IsBadLog, IsOpen, IsShut, SameBesidesLog, RedoesTo, IsLikeRedone, redo_has_one_result}
 use Rattle.vbm_named.specs.Names.{Name, is_before, is_named, has_name, find_by, put_by, without, Rises}
+use Rattle.vbm_ids.specs.declared.TheConstants.{NUMBER_LIMIT}
+use Rattle.vbm_ids.specs.Identifier.{is_foreign, is_not_below}
+use Rattle.vbm_world.specs.declared.refusals.TheConstants.{MEDIA_LIMIT}
 use Rattle.vbm_world.specs.World.{World}
-use Rattle.vbm_world.specs.Refusals.{is_foreign, is_not_below}
 use Rattle.vbm_named.proofs.Lists.{name_sym, All-map, All-every, All-both, none_of_any, has_found, All-put, rises_put, length-put, All-without, others-without, rises_without, length-without}
 use Rattle.vbm_registry.specs.declared.media.Medium.{Medium}
 use Rattle.vbm_registry.specs.declared.library.Library.{Library}
 use Rattle.vbm_registry.specs.declared.fault.BadStore.{BadStore}
-use Rattle.vbm_registry.specs.Library.{library_name, medium_entry_name, with_entry, without_entry, IsListed, IsLibrary}
+use Rattle.vbm_registry.specs.Library.{library_name, medium_entry_name, with_entry, without_entry, IsListed, IsLibrary, IsQuiet}
 use Rattle.vbm_registry.specs.Reading.{library_in}
 use Rattle.vbm_registry.specs.Stands.{header_in, medium_in, is_making, shelved_file, shelf_of, world_with, id_in, image_fault, file_fault, own_fault, first_fault, same_id_fault, media_fault, read_library, library_file, library_of, unless_fault, none_changed, store_of, held_by, Stands, redone, bad_log, IsOwn, AreDistinct, IsStore}
 use Rattle.vbm_registry.proofs.Again.{accepted}
@@ -254,6 +256,18 @@ library_is files l = of_file (files library_name)
     of_file None e = absurd cc
     of_file (Some bytes) e = of_read bytes (library_in bytes) refl e
 
+-- and nothing is being made or merged in it
+pub quiet_is : (files : Files) (l : Library) → library_of files ≡ Ok l → IsQuiet l
+quiet_is files l = of_file (files library_name)
+  where
+    of_read : (bytes : List ℕ) (r : Result Library ℕ) → library_in bytes ≡ r → read_library r ≡ Ok l → IsQuiet l
+    of_read bytes (Err offset) read e = absurd cc
+    of_read bytes (Ok k) read e = let same : k ≡ l = cc in subst IsQuiet same (accepted bytes k read).1
+
+    of_file : (file : Option (List ℕ)) → library_file file ≡ Ok l → IsQuiet l
+    of_file None e = absurd cc
+    of_file (Some bytes) e = of_read bytes (library_in bytes) refl e
+
 -- ---- the log aside
 
 pub medium_not_log : (name : Name) → IsTrue (is_medium_name name) → name ≢ log_name
@@ -323,7 +337,7 @@ store_put l a b m next store grows same own new =
           (λ n h. rw (id_frame a b n h.0) (name_sym (id_in b m) (id_in a n) ∙ h.1)) l.media (All-both _ _ l.media same others));
     }
 
-library_with : (l : Library) (next : ℕ) (ms : List Medium) → IsLibrary l → next ≤ 2 ^ 62 → length ms ≤ 1024 → Rises medium_entry_name ms
+library_with : (l : Library) (next : ℕ) (ms : List Medium) → IsLibrary l → next ≤ NUMBER_LIMIT → length ms ≤ MEDIA_LIMIT → Rises medium_entry_name ms
     → AllByRecursion IsListed ms → IsLibrary (record l { next = next; media = ms })
 library_with l next ms is few room rises listed = record {
   seed = is.seed;
@@ -334,8 +348,6 @@ library_with l next ms is few room rises listed = record {
   media = listed;
   inners = is.inners;
   machines = is.machines;
-  making = is.making;
-  merging = is.merging;
 }
 
 none_from : {X : Type 0} (o : Option X) → is_some o ≡ false → o ≡ None
@@ -346,7 +358,7 @@ pub absent : {X : Type 0} (nx : X → Name) (name : Name) (xs : List X) → has_
 absent nx name xs none = none_from (find_by nx name xs) (sym (has_found nx name xs) ∙ none)
 
 pub library_put : (l : Library) (m : Medium) (next : ℕ) → IsLibrary l → IsListed m → has_name medium_entry_name m.name l.media ≡ false
-    → length l.media < 1024 → next ≤ 2 ^ 62 → IsLibrary (with_entry (record l { next = next }) m)
+    → length l.media < MEDIA_LIMIT → next ≤ NUMBER_LIMIT → IsLibrary (with_entry (record l { next = next }) m)
 library_put l m next is listed new room few =
     library_with l next (put_by medium_entry_name m l.media) is few (omega (arith, room, length-put medium_entry_name m l.media))
     (rises_put medium_entry_name m l.media (absent medium_entry_name m.name l.media new) is.rises)

@@ -16,22 +16,23 @@ use Rattle.vbm_header.specs.Header.{is_differencing}
 use Rattle.vbm_volume.specs.Image.{image_of}
 use Rattle.vbm_volume.specs.Sectors.{sector_count, flat_of_base}
 use Rattle.vbm_volume.proofs.Likes.{flat_length, capacity_good}
+use Rattle.vbm_ids.specs.declared.TheConstants.{NUMBER_LIMIT}
 use Rattle.vbm_ids.specs.declared.Kind.{Kind}
 use Rattle.vbm_ids.specs.declared.Kind.TheVariants.{Medium as Drawn, Modify, Inner, InnerModify}
-use Rattle.vbm_ids.specs.Identifier.{identifier_of, number_in, counted_in}
+use Rattle.vbm_ids.specs.Identifier.{identifier_of, number_in, counted_in, is_foreign, has_id}
 use Rattle.vbm_ids.proofs.Identifiers.{number_in_of, identifier_of-same}
 use Rattle.vbm_world.specs.declared.world.WorldMedium.{WorldMedium}
 use Rattle.vbm_world.specs.declared.world.Shelved.{Shelved}
 use Rattle.vbm_named.specs.Names.{Name, find_by, has_name, put_by, without}
-use Rattle.vbm_world.specs.World.{World, medium_name, medium_of, is_frozen, with_shelved}
-use Rattle.vbm_world.specs.Refusals.{is_bad_size, is_foreign, is_medium, has_id}
+use Rattle.vbm_world.specs.World.{World, medium_name, medium_id, medium_of, is_frozen, with_shelved}
+use Rattle.vbm_world.specs.Refusals.{is_bad_size, is_medium}
 use Rattle.vbm_world.specs.Step.{shelved}
 use Rattle.vbm_world.specs.Sound.{IsSoundMedium, IsSized, IsSoundFile, IsSoundShelf, first_count, IsSound}
 use Rattle.vbm_world.proofs.Keeping.{not_frozen}
 use Rattle.vbm_named.proofs.Lists.{All-every, name_refl, name_sym, find_put_same, find_put_other, find_without_same, find_without_other, All-map, All-of_map, any_none, any_map, has_found, find_map, has_map, put_map, without_map, rises_map}
 use Rattle.vbm_registry.specs.declared.media.Medium.{Medium}
 use Rattle.vbm_registry.specs.declared.library.Library.{Library}
-use Rattle.vbm_registry.specs.Library.{medium_entry_name, with_entry, without_entry, IsListed, IsLibrary}
+use Rattle.vbm_registry.specs.Library.{medium_entry_name, with_entry, without_entry, IsListed, IsLibrary, IsQuiet}
 use Rattle.vbm_registry.specs.Stands.{none_changed, held_by, header_in, variant_of, medium_in, id_in, link_sectors, shelved_image, shelved_file, is_making, shelf_of, world_with, IsOwn, IsStore}
 use Rattle.vbm_registry.proofs.Stores.{absent, store_if_held, library_is, header_of_file, SameFiles, SameBesides, same_media, same_others, media_frame, shelf_frame}
 
@@ -54,13 +55,13 @@ is_medium_with changed l files name =
     ∙ has_map (medium_in changed files) medium_entry_name medium_name (entry_name changed files) name l.media
 
 pub has_id_with : (changed : Name → Bool) (l : Library) (files : Files) (id : List ℕ)
-    → has_id (world_with changed l files) id ≡ list_any (λ (m : Medium). bytes_eq (id_in files m) id) l.media
+    → has_id medium_id id (world_with changed l files).media ≡ list_any (λ (m : Medium). bytes_eq (id_in files m) id) l.media
 unfolding world_with medium_in
 has_id_with changed l files id = any_map (medium_in changed files) (λ (m : WorldMedium). bytes_eq m.id id) l.media
 
 -- ---- identifiers
 
-module _ (seed : List ℕ) (long : length seed ≡ 16) (n : ℕ) (small : n < 2 ^ 62) where
+module _ (seed : List ℕ) (long : length seed ≡ 16) (n : ℕ) (small : n < NUMBER_LIMIT) where
   drawn_number : number_in seed Drawn (identifier_of seed Drawn n) ≡ Some n
   unfolding number_in
   drawn_number = rw (number_in_of seed (omega arith) Drawn n small, name_refl (identifier_of seed Drawn n)) refl
@@ -192,15 +193,15 @@ world_put changed l a b m next is same none =
     shelf_frame a b l k n (has_put_other m n l.media (name_sym m.name n ∙ apart)) refl (λ named. same n named apart)) in
     λ i. record { seed = l.seed; next = next; inner = l.inner; media = media i; machines = []; shelf = shelf i }
 
-pub world_without : (changed : Name → Bool) (l : Library) (a b : Files) (name : Name) → IsLibrary l → SameBesides name a b
+pub world_without : (changed : Name → Bool) (l : Library) (a b : Files) (name : Name) → IsLibrary l → IsQuiet l → SameBesides name a b
     → IsTrue (is_medium_name name) → world_with changed (without_entry l name) b
     ≡ (let w = world_with changed l a in
     record w { media = without medium_name name w.media; shelf = with_shelved w.shelf name (option_map shelved_file (b name)) })
 unfolding world_with
-world_without changed l a b name is same named =
+world_without changed l a b name is quiet same named =
     let k = without_entry l name in
     let media = media_without changed a b name l.media (same_others l name a b is same) in
-    let here = on_shelf k b name named (has_without name l.media) is.making in
+    let here = on_shelf k b name named (has_without name l.media) quiet.making in
     let shelf = shelf_is (shelf_of l a) (shelf_of k b) name (option_map shelved_file (b name)) here (λ n apart.
     shelf_frame a b l k n (has_without_other name n l.media (name_sym name n ∙ apart)) refl (λ is. same n is apart)) in
     λ i. record { seed = l.seed; next = l.next; inner = l.inner; media = media i; machines = []; shelf = shelf i }
@@ -269,7 +270,7 @@ module _ (changed : Name → Bool) (l : Library) (files : Files) where
   pub world_sound : IsLibrary l → IsStore l files → IsSound (world_with changed l files)
   unfolding world_with
   world_sound is store = record {
-    seed = is.seed;
+    seed = is.seed.long;
     next = is.next;
     inner = is.inner;
     media_order = rises_map (medium_in changed files) medium_entry_name medium_name (entry_name changed files) l.media is.rises;

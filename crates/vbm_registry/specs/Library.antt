@@ -5,7 +5,10 @@ use Rattle.std.specs.Int.{Width, w8, w16, w64, to_le_bytes}
 use Rattle.vbm_ports.specs.Names.{is_medium_name}
 use Rattle.vbm_modes.specs.declared.Mode.{Mode}
 use Rattle.vbm_modes.specs.declared.Mode.TheVariants.{Normal, Immutable, Writethrough, MultiAttach, Readonly}
+use Rattle.vbm_ids.specs.declared.TheConstants.{NUMBER_LIMIT}
+use Rattle.vbm_ids.specs.Identifier.{IsSeed}
 use Rattle.vbm_named.specs.Names.{Name, Rises, put_by, without}
+use Rattle.vbm_world.specs.declared.refusals.TheConstants.{MEDIA_LIMIT}
 use Rattle.vbm_registry.specs.declared.media.Medium.{Medium}
 use Rattle.vbm_registry.specs.declared.library.Library.{Library}
 
@@ -45,7 +48,7 @@ list_onto w onto xs rest = to_le_bytes w (length xs) ++ items_onto onto xs rest
 abbrev pub head : List ℕ
 head = codes "VBMLIB01"
 
--- Counts of no inner images and no machines, no file that is being made, and no merging. Others are not spelled yet.
+-- counts of no inner images and no machines, no file that is being made, and no merging
 abbrev pub no_more : List ℕ
 no_more = to_le_bytes w16 0 ++ to_le_bytes w16 0 ++ to_le_bytes w8 0 ++ to_le_bytes w8 0
 
@@ -58,18 +61,21 @@ pub record IsListed (m : Medium) : Type 0 where
   pub name : IsTrue (is_medium_name m.name)
   pub mode : m.mode ≡ Normal
 
+-- nothing is being made or merged; other libraries are not spelled yet
+pub record IsQuiet (l : Library) : Type 0 where
+  pub making : l.making ≡ None
+  pub merging : l.merging ≡ []
+
 -- the rules of a library
 pub record IsLibrary (l : Library) : Type 0 where
-  pub seed : length l.seed ≡ 16
-  pub next : l.next ≤ 2 ^ 62
-  pub inner : l.inner ≤ 2 ^ 62
-  pub count : length l.media ≤ 1024
+  pub seed : IsSeed l.seed
+  pub next : l.next ≤ NUMBER_LIMIT
+  pub inner : l.inner ≤ NUMBER_LIMIT
+  pub count : length l.media ≤ MEDIA_LIMIT
   pub rises : Rises medium_entry_name l.media
   pub media : AllByRecursion IsListed l.media
   pub inners : l.inners ≡ []
   pub machines : l.machines ≡ []
-  pub making : l.making ≡ None
-  pub merging : l.merging ≡ []
 
 -- a library with one more medium, in its place, and one without the medium of a name
 abbrev pub with_entry : Library → Medium → Library

@@ -1,12 +1,14 @@
 -- Reading a library's file from left to right. Each reader gives a value and the bytes after it, or how many bytes are left where the
 -- first bad field begins.
-use Rattle.std.specs.Prelude.{◌≡◌, ℕ, zero, suc, ◌-◌, ◌^◌, not, ◌&&◌, ◌==◌, List, [], ◌∷◌, length, take, drop, None, Result, Ok, Err, nat_lt, nat_eq, if◌then◌else◌}
+use Rattle.std.specs.Prelude.{◌≡◌, ℕ, zero, suc, ◌-◌, ◌^◌, not, ◌&&◌, ◌==◌, Bool, List, [], ◌∷◌, length, take, drop, None, Result, Ok, Err, nat_lt, nat_eq, if◌then◌else◌}
 use Rattle.std.specs.Int.{Width, w8, w16, w64, byte_len, from_le_bytes}
-use Rattle.std.specs.List.{starts_with}
+use Rattle.std.specs.List.{list_all, starts_with}
 use Rattle.vbm_ports.specs.Names.{is_medium_name}
 use Rattle.vbm_modes.specs.declared.Mode.{Mode}
 use Rattle.vbm_modes.specs.declared.Mode.TheVariants.{Normal}
+use Rattle.vbm_ids.specs.declared.TheConstants.{NUMBER_LIMIT}
 use Rattle.vbm_named.specs.Names.{Name, is_before}
+use Rattle.vbm_world.specs.declared.refusals.TheConstants.{MEDIA_LIMIT}
 use Rattle.vbm_registry.specs.declared.media.Medium.{Medium}
 use Rattle.vbm_registry.specs.declared.library.Library.{Library}
 use Rattle.vbm_registry.specs.declared.reading.Stop.{Stop}
@@ -35,8 +37,14 @@ limited_at w most bytes = do
   n ← number_at w bytes
   if nat_lt most n.0 then Err (length bytes) else Ok n
 
+abbrev pub are_bytes : List ℕ → Bool
+are_bytes bytes = list_all (λ b. nat_lt b 256) bytes
+
+-- sixteen items that are bytes, as all items of a file are
 unfoldable pub seed_at : List ℕ → Reads (List ℕ)
-seed_at bytes = if nat_lt (length bytes) 16 then Err (length bytes) else Ok (take 16 bytes, drop 16 bytes)
+seed_at bytes =
+    if nat_lt (length bytes) 16 then Err (length bytes)
+    else if are_bytes (take 16 bytes) then Ok (take 16 bytes, drop 16 bytes) else Err (length bytes)
 
 -- a medium's name that comes after the one before it
 unfoldable pub name_at : Name → List ℕ → Reads Name
@@ -66,10 +74,10 @@ items_at item_at key_of (suc n) key bytes = do
   others ← items_at item_at key_of n (key_of first.0) first.1
   Ok (first.0 ∷ others.0, others.1)
 
--- up to 1024 media; no name comes before the empty one
+-- no name comes before the empty one
 unfoldable pub media_at : List ℕ → Reads (List Medium)
 media_at bytes = do
-  count ← limited_at w16 1024 bytes
+  count ← limited_at w16 MEDIA_LIMIT bytes
   items_at medium_at medium_entry_name count.0 [] count.1
 
 -- the counts of what no file lists yet
@@ -97,8 +105,8 @@ listing seed next inner media = record {
 unfoldable pub fields_at : List ℕ → Result Library ℕ
 fields_at bytes = do
   seed ← seed_at bytes
-  next ← limited_at w64 (2 ^ 62) seed.1
-  inner ← limited_at w64 (2 ^ 62) next.1
+  next ← limited_at w64 NUMBER_LIMIT seed.1
+  inner ← limited_at w64 NUMBER_LIMIT next.1
   media ← media_at inner.1
   more ← no_more_at media.1
   if length more.1 == 0 then Ok (listing seed.0 next.0 inner.0 media.0) else Err (length more.1)

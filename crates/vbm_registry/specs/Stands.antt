@@ -15,13 +15,13 @@ use Rattle.vbm_volume.specs.Image.{image_of, word_of, is_free}
 use Rattle.vbm_volume.specs.Sectors.{sector_count, sector_by, flat_of_base}
 use Rattle.vbm_volume.specs.declared.flat.Variant.{Variant}
 use Rattle.vbm_volume.specs.declared.flat.Variant.TheVariants as variants
+use Rattle.vbm_ids.specs.Identifier.{is_foreign}
 use Rattle.vbm_world.specs.declared.world.WorldMedium.{WorldMedium}
 use Rattle.vbm_world.specs.declared.world.LinkFile.{LinkFile}
 use Rattle.vbm_world.specs.declared.world.Shelved.{Shelved}
 use Rattle.vbm_world.specs.declared.world.Shelved.TheVariants.{Volume, Link, Bad}
 use Rattle.vbm_named.specs.Names.{Name, has_name}
 use Rattle.vbm_world.specs.World.{World}
-use Rattle.vbm_world.specs.Refusals.{is_foreign}
 use Rattle.vbm_registry.specs.declared.media.Medium.{Medium}
 use Rattle.vbm_registry.specs.declared.library.Library.{Library}
 use Rattle.vbm_registry.specs.declared.fault.BadStore.{BadStore}

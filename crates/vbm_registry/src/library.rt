@@ -71,10 +71,6 @@ pub struct Library {
 
 impl Copied for Library {
     fn copied(&self, alloc: Global) -> Result<Library, NoMemory> {
-        let making = match &self.making {
-            Some(name) => Some(name.copied(alloc)?),
-            None => None,
-        };
         Ok(Library {
             seed: self.seed,
             next: self.next,
@@ -82,7 +78,7 @@ impl Copied for Library {
             media: self.media.copied(alloc)?,
             inners: self.inners.copied(alloc)?,
             machines: self.machines.copied(alloc)?,
-            making,
+            making: Copied::copied(&self.making, alloc)?,
             merging: self.merging.copied(alloc)?,
         })
     }

@@ -4,25 +4,24 @@ ghost use Rattle.std.specs.Prelude.{◌≡◌, ◌≤◌, ◌^◌, length, [], I
 ghost use Rattle.std.specs.Int.{w8, w16, w64};
 ghost use Rattle.vbm_registry.specs.declared.reading.Stop.TheVariants.{NoMemory as OutOfMemory};
 ghost use Rattle.vbm_named.specs.Names.{is_before as before};
-ghost use Rattle.vbm_registry.specs.Library.{IsLibrary, spelling, medium_entry_name};
+ghost use Rattle.vbm_registry.specs.Library.{IsLibrary, IsQuiet, spelling, medium_entry_name};
 ghost use Rattle.vbm_registry.specs.Reading.{Gives, number_at, limited_at, seed_at, name_at, mode_at, medium_at, items_at, media_at, no_more_at, fields_at, library_in, Decodes};
 
 use crate::library::Library;
 use crate::media::{Media, Medium};
 use std::alloc::Global;
-use std::cmp::Ordering;
 use uuid::Uuid;
+use vbm_ids::NUMBER_LIMIT;
 use vbm_machines::Machines;
 use vbm_modes::Mode;
+use vbm_named::names::is_before;
 use vbm_ports::{NoMemory, Sequence, Text, names_medium};
+use vbm_world::MEDIA_LIMIT;
 
 const HEAD: &[u8; 8] = b"VBMLIB01";
 
 /// The most bytes that a library's file has.
 const LONGEST: usize = 1 << 20;
-
-/// The most identifiers of a kind that are drawn.
-const MOST_DRAWN: u64 = 1 << 62;
 
 /// Why reading stopped.
 #[derive(Clone, Copy, Debug, PartialEq, Eq)]
@@ -110,12 +109,6 @@ fn read_seed(bytes: &[u8]) -> Result<([u8; 16], &[u8]), Stop>
     }
 }
 
-fn is_before(earlier: &[u8], name: &[u8]) -> bool
-    ensures { result ≡ before earlier.now name.now }
-{
-    matches!(earlier.cmp(name), Ordering::Less)
-}
-
 #[tactic(auto, unfolding(crate::specs::Reading::name_at))]
 fn read_name<'a>(earlier: &[u8], bytes: &'a [u8]) -> Result<(&'a [u8], &'a [u8]), Stop>
     ensures name { Gives (λ x. (x.0.now, x.1.now)) result (name_at earlier.now bytes.now) }
@@ -188,7 +181,7 @@ fn read_items(alloc: Global, count: u16, bytes: &[u8]) -> Result<(Media, &[u8]),
 fn read_media(alloc: Global, bytes: &[u8]) -> Result<(Media, &[u8]), Stop>
     ensures { Gives (λ x. (x.0, x.1.now)) result (media_at bytes.now) }
 {
-    let (count, rest) = limited_u16(bytes, 1024)?;
+    let (count, rest) = limited_u16(bytes, MEDIA_LIMIT as u16)?;
     read_items(alloc, count, rest)
 }
 
@@ -208,8 +201,8 @@ fn read_fields(alloc: Global, bytes: &[u8]) -> Result<Library, Stop>
     ensures { Gives (λ l. l) result (fields_at bytes.now) }
 {
     let (seed, rest) = read_seed(bytes)?;
-    let (next, rest) = limited_u64(rest, MOST_DRAWN)?;
-    let (inner, rest) = limited_u64(rest, MOST_DRAWN)?;
+    let (next, rest) = limited_u64(rest, NUMBER_LIMIT)?;
+    let (inner, rest) = limited_u64(rest, NUMBER_LIMIT)?;
     let (media, rest) = read_media(alloc, rest)?;
     let (_, rest) = read_no_more(rest)?;
     if !rest.is_empty() {
@@ -259,7 +252,7 @@ fn read_file(alloc: Global, bytes: &[u8]) -> Result<Library, DecodeFault>
 /// is at the first field that breaks a rule or that the file is too short for, or at the first byte after the last field.
 pub fn decode(alloc: Global, bytes: &[u8]) -> Result<Library, DecodeFault>
     ensures exact { Decodes result (library_in bytes.now) }
-    ensures spelled { IfOk result (λ l. IsLibrary l × (bytes.now ≡ spelling l)) }
+    ensures spelled { IfOk result (λ l. IsLibrary l × IsQuiet l × (bytes.now ≡ spelling l)) }
 {
     read_file(alloc, bytes)
 }

@@ -2,7 +2,7 @@
 
 ghost use Rattle.std.specs.Prelude.{◌≡◌, ◌++◌, ◌≤◌, ◌^◌, length, List, ℕ, OnOk, IfOk, Ok};
 ghost use Rattle.std.specs.List.{AllByRecursion};
-ghost use Rattle.vbm_registry.specs.Library.{IsLibrary, IsListed, spelling, items_onto, medium_onto, mode_code as code_of};
+ghost use Rattle.vbm_registry.specs.Library.{IsLibrary, IsQuiet, IsListed, spelling, items_onto, medium_onto, mode_code as code_of};
 ghost use Rattle.vbm_registry.specs.Reading.{library_in};
 
 use crate::library::Library;
@@ -68,7 +68,8 @@ fn spell(alloc: Global, library: &Library) -> Result<Vec<u8>, AllocError>
 
 /// The bytes of a library's file, at most 2^20, from which the library is read again.
 pub fn encode(alloc: Global, library: &Library) -> Result<Bytes, NoMemory>
-    requires { IsLibrary library.now }
+    requires rules { IsLibrary library.now }
+    requires quiet { IsQuiet library.now }
     ensures bytes { IfOk result (λ b. b ≡ spelling library.now) }
     ensures again { IfOk result (λ b. library_in b ≡ Ok library.now) }
     ensures short { IfOk result (λ b. length b ≤ 2 ^ 20) }

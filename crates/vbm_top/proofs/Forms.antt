@@ -11,7 +11,8 @@ use Rattle.vbm_world.specs.declared.command.Command.{Command}
 use Rattle.vbm_world.specs.declared.command.Command.TheVariants.{CreateMedium, OpenMedium, CloseMedium, ShowMediumInfo, ListHdds}
 use Rattle.vbm_lines.specs.Lines.{Words}
 use Rattle.vbm_world.specs.Texts.{IsCommand, IsSpelled, words_of, size_words, size_number, delete_words, variant_words, id_text}
-use Rattle.vbm_top.specs.Run.{IsPeek, IsSeed, IsInit, drawn, given}
+use Rattle.vbm_ids.specs.Identifier.{IsSeed}
+use Rattle.vbm_top.specs.Run.{IsPeek, IsInit, drawn, given}
 
 pub one_peek : (words : Words) (m n : List ℕ) (k l : ℕ) → IsPeek words m k → IsPeek words n l → (m ≡ n) × (k ≡ l)
 one_peek words m n k l g h =

@@ -1,5 +1,5 @@
 -- A run of the program: one command in words.
-use Rattle.std.specs.Prelude.{◌≡◌, ℕ, ◌<◌, ◌^◌, ◌⊎◌, List, [], ◌∷◌, ◌++◌, length, All, Ok, Err, IsTrue, if◌then◌else◌, codes, decimal}
+use Rattle.std.specs.Prelude.{◌≡◌, ℕ, ◌<◌, ◌^◌, ◌⊎◌, List, [], ◌∷◌, ◌++◌, length, Ok, Err, IsTrue, if◌then◌else◌, codes, decimal}
 use Rattle.vbm_ports.specs.Names.{is_medium_name}
 use Rattle.vbm_ports.specs.Files.{Files}
 use Rattle.vbm_ports.specs.Disk.{DiskState, OnlyReads}
@@ -7,6 +7,7 @@ use Rattle.vbm_ports.specs.Counts.{Rose}
 use Rattle.vbm_ports.specs.Crash.{Only}
 use Rattle.vbm_ports.specs.Stream.{IsProperPrefix}
 use Rattle.vbm_intent.specs.Log.{IsBadLog}
+use Rattle.vbm_ids.specs.Identifier.{IsSeed}
 use Rattle.vbm_world.specs.declared.command.Command.{Command}
 use Rattle.vbm_world.specs.declared.command.Answer.{Answer}
 use Rattle.vbm_world.specs.declared.command.Answer.TheVariants.{Id}
@@ -30,11 +31,6 @@ pub record IsPeek (words : Words) (name : List ℕ) (lba : ℕ) : Type 0 where
   pub spelled : words ≡ codes "peek" ∷ name ∷ decimal lba ∷ []
   pub medium : IsTrue (is_medium_name name)
   pub fits : lba < 2 ^ 64
-
--- sixteen bytes
-pub record IsSeed (seed : List ℕ) : Type 0 where
-  pub long : length seed ≡ 16
-  pub bytes : All (λ b. b < 256) seed
 
 -- The words `init`, which take the fresh seed, or `init SEED` with an identifier in the hyphenated lower-case form.
 pub data IsInit (words : Words) (fresh seed : List ℕ) : Type 0 where

@@ -2,7 +2,8 @@
 
 ghost use Rattle.std.specs.Prelude.{◌≡◌, ℕ, List, MatchOption, IsTrue, ◌↔◌};
 ghost use Rattle.vbm_world.specs.Texts.{id_text};
-ghost use Rattle.vbm_top.specs.Run.{IsPeek, IsSeed, IsInit, IsScript};
+ghost use Rattle.vbm_top.specs.Run.{IsPeek, IsInit, IsScript};
+ghost use Rattle.vbm_ids.specs.Identifier.{IsSeed};
 
 use uuid::Uuid;
 use vbm_lines::decimal;

@@ -7,8 +7,10 @@ use Rattle.std.proofs.lemmas.Bool.{and_right, or_parts, or_from, not-false, fals
 use Rattle.std.proofs.lemmas.List.{length-replicate}
 use Rattle.std.proofs.lemmas.Slice.Eq.{bytes_eq-Decides}
 use Rattle.vbm_ports.specs.Names.{is_medium_name}
+use Rattle.vbm_ids.specs.declared.TheConstants.{NUMBER_LIMIT}
 use Rattle.vbm_modes.specs.declared.Mode.{Mode}
 use Rattle.vbm_volume.specs.Sectors.{FlatDisk}
+use Rattle.vbm_world.specs.declared.refusals.TheConstants.{MEDIA_LIMIT}
 use Rattle.vbm_world.specs.declared.command.Command.{Command}
 use Rattle.vbm_world.specs.declared.command.Command.TheVariants.{CreateMedium, OpenMedium, CloseMedium, ShowMediumInfo, ListHdds}
 use Rattle.vbm_world.specs.declared.command.Refusal.{Refusal}
@@ -187,7 +189,7 @@ none_from : {X : Type 0} (o : Option X) → is_some o ≡ false → o ≡ None
 none_from None e = refl
 none_from (Some x) e = absurd cc
 
-pub added_sound : (w : World) → IsSound w → (m : WorldMedium) → IsNew w m → (next : ℕ) → next ≤ 2 ^ 62
+pub added_sound : (w : World) → IsSound w → (m : WorldMedium) → IsNew w m → (next : ℕ) → next ≤ NUMBER_LIMIT
     → (shelf : Name → Option Shelved) → FitsShelf w m.name shelf
     → IsSound (record w { next = next; media = put_by medium_name m w.media; shelf = shelf })
 added_sound w ok m new next low shelf fits =
@@ -210,7 +212,7 @@ added_sound w ok m new next low shelf fits =
           let same : m.name ≡ other = (bytes_eq-Decides m.name other).0 t in
           let gone : is_some (shelf other) ≡ false = subst (λ n. is_some (shelf n) ≡ false) same fits.away in
           absurd cc)) (none_of_any _ w.media none))) (fits.sound other);
-      few_media = omega (arith, length-put medium_name m w.media, leb-false 1024 (length w.media) new.room);
+      few_media = omega (arith, length-put medium_name m w.media, leb-false MEDIA_LIMIT (length w.media) new.room);
       few_machines = ok.few_machines;
       few_snapshots = ok.few_snapshots;
       few_places = ok.few_places;
@@ -309,7 +311,7 @@ step_keeps w ok (CreateMedium name size variant) spelled number =
       disk = zero_disk_fits (capacity_of size) pass.1.1.0;
       capacity = pass.1.1.0;
       room = pass.1.1.1.0;
-    }) (w.next + 1) (omega (arith, leb-false (2 ^ 62) w.next pass.1.1.1.1.0)) w.shelf (record { sound = ok.shelf; away = pass.1.0 }))
+    }) (w.next + 1) (omega (arith, leb-false NUMBER_LIMIT w.next pass.1.1.1.1.0)) w.shelf (record { sound = ok.shelf; away = pass.1.0 }))
 step_keeps w ok (OpenMedium name) spelled number =
     unless LeadsToSound w (open_checks w name) _ (λ refusal. ok) (λ pass. open_keeps w ok name spelled pass.0 (w.shelf name) refl pass.1)
 step_keeps w ok (CloseMedium name delete) spelled number = found LeadsToSound w NoSuchMedium (medium_of w name) _ ok (λ m is.

@@ -5,5 +5,6 @@ pub mod Step
 pub mod Texts
 pub mod Runs
 pub mod Loose
+pub mod Tree
 pub mod Sound
 pub mod Seen

@@ -1,20 +1,18 @@
 -- Refusals: first the named things of a command are looked up, from left to right, and the first that is missing is the answer.
 -- Then of the conditions that hold, that with the least number is.
 use Rattle.std.specs.Prelude.{ℕ, ◌^◌, ◌*◌, ◌%◌, ◌==◌, ◌||◌, not, nat_lt, nat_le, Bool, true, if◌then◌else◌, List, [], ◌∷◌, ◌++◌, length, Option, Some, None, is_some}
-use Rattle.std.specs.List.{list_any}
-use Rattle.std.specs.Str.{bytes_eq}
-use Rattle.vbm_ids.specs.declared.Kind.TheVariants.{Medium, Modify, Inner, InnerModify}
-use Rattle.vbm_ids.specs.Identifier.{number_in}
+use Rattle.vbm_ids.specs.declared.TheConstants.{NUMBER_LIMIT}
+use Rattle.vbm_ids.specs.Identifier.{is_foreign, has_id}
+use Rattle.vbm_world.specs.declared.refusals.TheConstants.{MEDIA_LIMIT}
 use Rattle.vbm_world.specs.declared.command.Refusal.{Refusal}
 use Rattle.vbm_world.specs.declared.command.Refusal.TheVariants.{NameTaken, FileExists, NoSuchFile, NotAnImage, DuplicateId, ForeignId, BadSize, Full, IdsSpent, BrokenChain, InUse}
 use Rattle.vbm_world.specs.declared.command.Which.TheVariants.{Media}
 use Rattle.vbm_world.specs.declared.command.Size.{Size}
 use Rattle.vbm_world.specs.declared.command.Size.TheVariants.{Mb, Bytes}
-use Rattle.vbm_world.specs.declared.world.WorldMedium.{WorldMedium}
 use Rattle.vbm_world.specs.declared.world.Shelved.{Shelved}
 use Rattle.vbm_world.specs.declared.world.Shelved.TheVariants.{Volume, Link, Bad}
 use Rattle.vbm_named.specs.Names.{Name}
-use Rattle.vbm_world.specs.World.{World, medium_of, is_in_use}
+use Rattle.vbm_world.specs.World.{World, medium_id, medium_of, is_in_use}
 
 -- a condition, and the refusal that comes where it holds
 abbrev pub Check : Type 0
@@ -36,26 +34,13 @@ is_bad_size n = (n == 0) || nat_lt (2 ^ 41) n || not (n % 512 == 0)
 abbrev pub is_medium : World → Name → Bool
 is_medium w name = is_some (medium_of w name)
 
--- A library has 1024 media at most.
+-- there may be no more media
 abbrev pub is_full : World → Bool
-is_full w = nat_le 1024 (length w.media)
+is_full w = nat_le MEDIA_LIMIT (length w.media)
 
 -- the last identifier of media is drawn
 abbrev pub is_spent : World → Bool
-is_spent w = nat_le (2 ^ 62) w.next
-
-abbrev pub has_id : World → List ℕ → Bool
-has_id w id = list_any (λ (m : WorldMedium). bytes_eq m.id id) w.media
-
-abbrev pub is_not_below : ℕ → Option ℕ → Bool
-is_not_below next None = not true
-is_not_below next (Some n) = nat_le next n
-
--- An identifier of this library's seed that it has not given to a medium.
-abbrev pub is_foreign : List ℕ → ℕ → List ℕ → Bool
-is_foreign seed next id =
-    is_some (number_in seed Modify id) || is_some (number_in seed Inner id) || is_some (number_in seed InnerModify id)
-    || is_not_below next (number_in seed Medium id)
+is_spent w = nat_le NUMBER_LIMIT w.next
 
 abbrev pub create_checks : World → Name → ℕ → List Check
 create_checks w name capacity =
@@ -67,7 +52,7 @@ create_checks w name capacity =
     ∷ []
 
 abbrev pub id_checks : World → List ℕ → List Check
-id_checks w id = (has_id w id, DuplicateId) ∷ (is_foreign w.seed w.next id, ForeignId) ∷ (is_full w, Full Media) ∷ []
+id_checks w id = (has_id medium_id id w.media, DuplicateId) ∷ (is_foreign w.seed w.next id, ForeignId) ∷ (is_full w, Full Media) ∷ []
 
 -- what is asked of the file of the shelf
 abbrev pub file_checks : World → Option Shelved → List Check

@@ -1,11 +1,13 @@
 -- Sound worlds: those that commands lead to.
-use Rattle.std.specs.Prelude.{◌≡◌, ℕ, ◌+◌, ◌*◌, ◌^◌, ◌<◌, ◌≤◌, ◌&&◌, not, Bool, true, false, List, [], ◌∷◌, length, sum_by, count_by, ◌==◌, Option, Some, None, is_some, is_none, IfSome, IsTrue, IsFalse}
+use Rattle.std.specs.Prelude.{◌≡◌, ℕ, ◌+◌, ◌*◌, ◌≤◌, ◌&&◌, not, Bool, true, false, List, [], ◌∷◌, length, map, sum_by, count_by, ◌==◌, Option, Some, None, is_some, is_none, IfSome, IsTrue, IsFalse}
 use Rattle.std.specs.List.{AllByRecursion, list_any}
 use Rattle.std.specs.Str.{bytes_eq}
 use Rattle.vbm_ports.specs.Names.{is_medium_name}
 use Rattle.vbm_modes.specs.declared.Mode.{Mode}
 use Rattle.vbm_modes.specs.declared.Mode.TheVariants.{Normal, Immutable, Writethrough, MultiAttach, Readonly}
 use Rattle.vbm_volume.specs.Sectors.{FlatDisk}
+use Rattle.vbm_ids.specs.declared.TheConstants.{NUMBER_LIMIT}
+use Rattle.vbm_world.specs.declared.refusals.TheConstants.{MEDIA_LIMIT}
 use Rattle.vbm_world.specs.declared.world.WorldMedium.{WorldMedium}
 use Rattle.vbm_world.specs.declared.world.WorldSlot.{WorldSlot}
 use Rattle.vbm_world.specs.declared.world.WorldSnapshot.{WorldSnapshot}
@@ -16,6 +18,7 @@ use Rattle.vbm_named.specs.Names.{Name, find_by, has_name, Rises}
 use Rattle.vbm_world.specs.World.{World, medium_name, machine_name, snapshot_name, has_medium, is_normal, is_frozen}
 use Rattle.vbm_world.specs.Loose.{is_direct}
 use Rattle.vbm_world.specs.Refusals.{is_bad_size}
+use Rattle.vbm_world.specs.Tree.{IsTree, link_of}
 
 abbrev pub is_immutable : Mode → Bool
 is_immutable Normal = false
@@ -79,22 +82,6 @@ abbrev pub slots_named : Option Name → List WorldSnapshot → List WorldSlot
 slots_named None snapshots = []
 slots_named (Some name) snapshots = slots_of (find_by snapshot_name name snapshots)
 
-abbrev pub is_root : WorldSnapshot → Bool
-is_root s = is_none s.parent
-
-abbrev pub Names : List WorldSnapshot → Name → Type 0
-Names snapshots name = IsTrue (has_name snapshot_name name snapshots)
-
--- The snapshots of a machine are one tree with one root; the current one is none exactly where there are no snapshots.
-pub record AreTree (snapshots : List WorldSnapshot) (current : Option Name) : Type 0 where
-  pub names : Rises snapshot_name snapshots
-  pub parents : AllByRecursion (λ (s : WorldSnapshot). IfSome s.parent (Names snapshots)) snapshots
-  pub depth : Name → ℕ
-  pub below : AllByRecursion (λ (s : WorldSnapshot). IfSome s.parent (λ parent. depth parent < depth s.name)) snapshots
-  pub root : count_by is_root snapshots ≤ 1
-  pub there : IfSome current (Names snapshots)
-  pub none : is_none current ≡ (length snapshots == 0)
-
 abbrev pub has_at : ℕ → Name → List WorldSlot → Bool
 has_at port name slots = list_any (λ (s : WorldSlot). (s.port == port) && bytes_eq s.medium name) slots
 
@@ -112,7 +99,7 @@ Inherits media upper lower =
     AllByRecursion (λ (s : WorldSlot). IsTrue (is_of_normal media s) → IsTrue (has_at s.port s.medium lower)) upper
 
 pub record IsSoundMachine (media : List WorldMedium) (m : WorldMachine) : Type 0 where
-  pub tree : AreTree m.snapshots m.current
+  pub tree : IsTree (map link_of m.snapshots) m.current
   pub slots : AreSoundSlots media false m.slots
   pub places : AllByRecursion (λ (s : WorldSnapshot). AreSoundSlots media true s.slots) m.snapshots
   -- a snapshot's normal media are those of its children too, and those of the current one are the machine's
@@ -146,8 +133,8 @@ pub record IsSoundShelf (media : List WorldMedium) (name : Name) (content : Shel
 
 pub record IsSound (w : World) : Type 0 where
   pub seed : length w.seed ≡ 16
-  pub next : w.next ≤ 2 ^ 62
-  pub inner : w.inner ≤ 2 ^ 62
+  pub next : w.next ≤ NUMBER_LIMIT
+  pub inner : w.inner ≤ NUMBER_LIMIT
   pub media_order : Rises medium_name w.media
   pub media_names : AllByRecursion (λ (m : WorldMedium). IsTrue (is_medium_name m.name)) w.media
   pub media : AllByRecursion (IsSoundMedium w.machines) w.media
@@ -156,7 +143,7 @@ pub record IsSound (w : World) : Type 0 where
   -- a frozen medium came into the snapshots of one machine, once
   pub first : AllByRecursion (λ (m : WorldMedium). IsTrue (is_frozen w.machines m) → sum_by (first_count m.name) w.machines ≡ 1) w.media
   pub shelf : (name : Name) → IfSome (w.shelf name) (IsSoundShelf w.media name)
-  pub few_media : length w.media ≤ 1024
+  pub few_media : length w.media ≤ MEDIA_LIMIT
   pub few_machines : length w.machines ≤ 256
   pub few_snapshots : sum_by (λ (m : WorldMachine). length m.snapshots) w.machines ≤ 4096
   pub few_places : sum_by (λ (m : WorldMachine). sum_by (λ (s : WorldSnapshot). length s.slots) m.snapshots) w.machines ≤ 16384

@@ -27,6 +27,9 @@ pub record World : Type 0 where
 abbrev pub medium_name : WorldMedium → Name
 medium_name m = m.name
 
+abbrev pub medium_id : WorldMedium → List ℕ
+medium_id m = m.id
+
 abbrev pub machine_name : WorldMachine → Name
 machine_name m = m.name
 

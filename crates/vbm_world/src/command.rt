@@ -54,7 +54,7 @@ pub enum Command {
 /// What there may be no more of.
 #[derive(Clone, Copy, Debug, PartialEq, Eq)]
 pub enum Which {
-    /// Media of a library: 1024.
+    /// Media of a library: [`MEDIA_LIMIT`](crate::MEDIA_LIMIT).
     Media,
     /// Machines of a library: 256.
     Machines,

@@ -1,6 +1,6 @@
 //! The commands on media, plain and slow: each copies all disks.
 
-ghost use Rattle.std.specs.Prelude.{◌≡◌, ◌<◌, ◌^◌, map, if◌then◌else◌, IfOk, Some, None};
+ghost use Rattle.std.specs.Prelude.{◌≡◌, ◌<◌, map, if◌then◌else◌, IfOk, Some, None};
 ghost use Rattle.std.specs.Option.{option_copied};
 ghost use Rattle.vbm_named.specs.Names.{Rises};
 ghost use Rattle.vbm_world.specs.World.{medium_name, medium_of, with_shelved, is_frozen};
@@ -16,7 +16,7 @@ use crate::command::{Answer, Refusal, Size};
 use crate::shelf::{with_file, without_file};
 use crate::world::{Shelf, Shelved, World, WorldMedia, WorldMedium};
 use std::alloc::Global;
-use vbm_ids::{Kind, id_of};
+use vbm_ids::{Kind, NUMBER_LIMIT, id_of};
 use vbm_modes::Mode;
 use vbm_named::names;
 use vbm_ports::{Copied, Names, NoMemory, Sequence, Text};
@@ -64,7 +64,7 @@ impl World {
         capacity: u64,
         variant: Variant,
     ) -> Result<WorldMedium, NoMemory>
-        requires { self.now.next < 2 ^ 62 }
+        requires { self.now.next < NUMBER_LIMIT }
         ensures { IfOk result (λ medium. medium ≡ made_medium (seen self.now) name.now capacity variant) }
     {
         Ok(WorldMedium {

@@ -4,14 +4,14 @@ ghost use Rattle.std.specs.Prelude.{◌≡◌};
 ghost use Rattle.std.specs.List.{list_any};
 ghost use Rattle.std.specs.Option.{option_copied};
 ghost use Rattle.vbm_world.specs.World.{medium_of, has_medium, is_in_snapshot, is_in_use, is_normal, is_frozen};
-ghost use Rattle.vbm_world.specs.Refusals.{capacity_of, is_bad_size, is_full, is_spent, has_id, is_not_below, is_foreign};
+ghost use Rattle.vbm_world.specs.Refusals.{capacity_of, is_bad_size, is_full, is_spent};
 ghost use Rattle.vbm_world.specs.Refusals.{first_refusal, create_checks, id_checks, file_checks, open_checks};
 ghost use Rattle.vbm_world.specs.Seen.{seen, on_shelf};
 
 use crate::command::{Refusal, Size, Which};
 use crate::world::{Shelved, World, WorldMachine, WorldMedium, WorldSlot};
 use uuid::Uuid;
-use vbm_ids::{Kind, NUMBER_LIMIT, number_of};
+use vbm_ids::{NUMBER_LIMIT, has_id, is_foreign};
 use vbm_modes::Mode;
 use vbm_named::names::{find, is_same};
 
@@ -56,16 +56,6 @@ impl WorldMachine {
     {
         let mut snapshots = self.snapshots.as_slice().iter();
         snapshots.any(|snapshot| has_medium(snapshot.slots.as_slice(), name))
-    }
-}
-
-// Whether a number that an identifier has is one that was not drawn.
-fn is_not_below(next: u64, number: Option<u64>) -> bool
-    ensures { result ≡ is_not_below next number }
-{
-    match number {
-        Some(n) => next <= n,
-        None => false,
     }
 }
 
@@ -123,22 +113,6 @@ impl World {
         self.next >= NUMBER_LIMIT
     }
 
-    fn has_id(&self, id: Uuid) -> bool
-        ensures { result ≡ has_id (seen self.now) id }
-    {
-        self.media.as_slice().iter().any(|medium| medium.id == id)
-    }
-
-    // Whether an identifier is of this seed and was given to no medium.
-    fn is_foreign(&self, id: Uuid) -> bool
-        ensures { result ≡ is_foreign self.now.seed self.now.next id }
-    {
-        number_of(self.seed, Kind::Modify, id).is_some()
-            || number_of(self.seed, Kind::Inner, id).is_some()
-            || number_of(self.seed, Kind::InnerModify, id).is_some()
-            || is_not_below(self.next, number_of(self.seed, Kind::Medium, id))
-    }
-
     pub(crate) fn create_refusal(&self, name: &[u8], capacity: u128) -> Option<Refusal>
         ensures { result ≡ first_refusal (create_checks (seen self.now) name.now capacity) }
     {
@@ -163,10 +137,10 @@ impl World {
     fn id_refusal(&self, id: Uuid) -> Option<Refusal>
         ensures { result ≡ first_refusal (id_checks (seen self.now) id) }
     {
-        if self.has_id(id) {
+        if has_id(self.media.as_slice(), id) {
             return Some(Refusal::DuplicateId);
         }
-        if self.is_foreign(id) {
+        if is_foreign(self.seed, self.next, id) {
             return Some(Refusal::ForeignId);
         }
         if self.is_full() {

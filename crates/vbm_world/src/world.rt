@@ -1,6 +1,7 @@
 //! Worlds: media with flat disks, machines with their snapshots, and files that are no media.
 
 use uuid::Uuid;
+use vbm_ids::Identified;
 use vbm_modes::Mode;
 use vbm_named::Named;
 use vbm_ports::{Sequence, Text};
@@ -77,6 +78,16 @@ impl Named for WorldMedium {
 
     fn name(&self) -> &[u8] {
         self.name.bytes()
+    }
+}
+
+impl Identified for WorldMedium {
+    ghost use Rattle.vbm_world.specs.World.{medium_id};
+
+    ghost id_of = { medium_id };
+
+    fn id(&self) -> Uuid {
+        self.id
     }
 }
 
