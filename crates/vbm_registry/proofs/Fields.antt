@@ -68,7 +68,7 @@ pub ok_is : {A : Type 0} (x y : A) → done x ≡ done y → x ≡ y
 ok_is x y e = cc
 
 -- what a reader took from the front, with a fact of it; of bytes it is spelled so
-pub record Takes (bytes text : List ℕ) (rest : List ℕ) (P : Type 0) : Type 0 where
+pub record TakesFront (bytes text : List ℕ) (rest : List ℕ) (P : Type 0) : Type 0 where
   pub parts : IsBytes bytes → bytes ≡ text
   pub rest_fits : IsBytes bytes → IsBytes rest
   pub holds : P
@@ -114,13 +114,13 @@ module _ (w : Width) (limit : ℕ) (wide : IsWide w limit) where
       (rw is (sym (take-append-drop (byte_len w) bytes)), IsBytes-drop (byte_len w) bytes fits)
 
   pub limited_takes : (most : ℕ) (bytes : List ℕ) (x : ℕ × List ℕ) → limited_at w most bytes ≡ Ok x
-      → Takes bytes (to_le_bytes w x.0 ++ x.1) x.1 (x.0 ≤ most)
+      → TakesFront bytes (to_le_bytes w x.0 ++ x.1) x.1 (x.0 ≤ most)
   unfolding limited_at
   limited_takes most bytes x e =
       let b = bind_ok (number_at w bytes) (λ y. cond (ltb most y.0) (Err (length bytes)) (Ok y)) x e in
       let g = guard_ok (ltb most b.0.0) (length bytes) (Ok b.0) x b.2 in
       let t = number_takes bytes b.0 b.1 in
-      subst (λ (y : ℕ × List ℕ). Takes bytes (to_le_bytes w y.0 ++ y.1) y.1 (y.0 ≤ most)) (ok_is b.0 x g.1) (record { parts = λ fits. (t fits).0; rest_fits = λ fits. (t fits).1; holds = ltb-false _ _ g.0 })
+      subst (λ (y : ℕ × List ℕ). TakesFront bytes (to_le_bytes w y.0 ++ y.1) y.1 (y.0 ≤ most)) (ok_is b.0 x g.1) (record { parts = λ fits. (t fits).0; rest_fits = λ fits. (t fits).1; holds = ltb-false _ _ g.0 })
 
   pub limited_again : (most n : ℕ) (rest : List ℕ) → n < limit → n ≤ most → limited_at w most (to_le_bytes w n ++ rest) ≡ Ok (n, rest)
   unfolding limited_at

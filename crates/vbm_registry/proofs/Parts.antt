@@ -14,7 +14,7 @@ use Rattle.vbm_world.specs.declared.refusals.TheConstants.{MEDIA_LIMIT}
 use Rattle.vbm_registry.specs.declared.media.Medium.{Medium}
 use Rattle.vbm_registry.specs.Library.{medium_entry_name, name_onto, medium_onto, mode_code, items_onto, list_onto, no_more, IsListed}
 use Rattle.vbm_registry.specs.Reading.{◌>>=◌, limited_at, are_bytes, seed_at, name_at, mode_at, medium_at, items_at, media_at, no_more_at}
-use Rattle.vbm_registry.proofs.Fields.{IsBytes, IsBytes-drop, IsBytes-rest, fit_front, bytes_are, are_bytes_all, bind_ok, guard_ok, guard_true, ok_is, Takes, wide8, wide16, limited_takes, limited_again}
+use Rattle.vbm_registry.proofs.Fields.{IsBytes, IsBytes-drop, IsBytes-rest, fit_front, bytes_are, are_bytes_all, bind_ok, guard_ok, guard_true, ok_is, TakesFront, wide8, wide16, limited_takes, limited_again}
 use Rattle.vbm_registry.proofs.Items.{items_again, items_takes}
 use Rattle.vbm_registry.proofs.Names.{ComesBefore, Follows, linked_rises, rises_linked}
 
@@ -82,7 +82,7 @@ pub seed_read : (bytes front rest : List ℕ) → IsBytes bytes → 16 ≤ lengt
 unfolding seed_at
 seed_read bytes front rest fits long first behind = rw (le-ltb (length bytes) 16 long, fit_front 16 bytes fits, first, behind) refl
 
-pub seed_takes : (bytes : List ℕ) (x : List ℕ × List ℕ) → seed_at bytes ≡ Ok x → Takes bytes (x.0 ++ x.1) x.1 (IsSeed x.0)
+pub seed_takes : (bytes : List ℕ) (x : List ℕ × List ℕ) → seed_at bytes ≡ Ok x → TakesFront bytes (x.0 ++ x.1) x.1 (IsSeed x.0)
 unfolding seed_at
 seed_takes bytes x e =
     let front = take 16 bytes in
@@ -91,14 +91,14 @@ seed_takes bytes x e =
     let g = guard_ok (ltb left 16) left (cond (are_bytes front) (Ok taken) (Err left)) x e in
     let h = guard_true (are_bytes front) left (Ok taken) x g.1 in
     let len : length front ≡ 16 = omega (arith, length-take 16 bytes, ltb-false _ _ g.0) in
-    subst (λ (y : List ℕ × List ℕ). Takes bytes (y.0 ++ y.1) y.1 (IsSeed y.0)) (ok_is taken x h.1) (record {
+    subst (λ (y : List ℕ × List ℕ). TakesFront bytes (y.0 ++ y.1) y.1 (IsSeed y.0)) (ok_is taken x h.1) (record {
       parts = λ fits. sym (take-append-drop 16 bytes);
       rest_fits = IsBytes-drop 16 bytes;
       holds = record { long = len; bytes = bytes_are front h.0 };
     })
 
 name_takes : (earlier bytes : List ℕ) (x : Name × List ℕ) → name_at earlier bytes ≡ Ok x
-    → Takes bytes (name_onto x.0 x.1) x.1 (IsTrue (is_medium_name x.0) × IsTrue (is_before earlier x.0))
+    → TakesFront bytes (name_onto x.0 x.1) x.1 (IsTrue (is_medium_name x.0) × IsTrue (is_before earlier x.0))
 unfolding name_at
 name_takes earlier [] x e = absurd cc
 name_takes earlier (n ∷ bytes) x e =
@@ -108,26 +108,26 @@ name_takes earlier (n ∷ bytes) x e =
     let h = guard_true (is_medium_name t && is_before earlier t) left (Ok (t, drop n bytes)) x g.1 in
     let len : length t ≡ n = omega (arith, length-take n bytes, ltb-false _ _ g.0) in
     let parts : n ∷ bytes ≡ name_onto t (drop n bytes) = ap (λ (k : ℕ). k ∷ bytes) (sym len) ∙ ap (λ (y : List ℕ). length t ∷ y) (sym (take-append-drop n bytes)) in
-    subst (λ (y : List ℕ × List ℕ). Takes (n ∷ bytes) (name_onto y.0 y.1) y.1 (IsTrue (is_medium_name y.0) × IsTrue (is_before earlier y.0))) (ok_is _ x h.1)
+    subst (λ (y : List ℕ × List ℕ). TakesFront (n ∷ bytes) (name_onto y.0 y.1) y.1 (IsTrue (is_medium_name y.0) × IsTrue (is_before earlier y.0))) (ok_is _ x h.1)
     (record { parts = λ fits. parts; rest_fits = λ fits. IsBytes-drop n bytes (IsBytes-rest n bytes fits); holds = and_both (is_medium_name t) (is_before earlier t) h.0 })
 
-mode_takes : (bytes : List ℕ) (x : Mode × List ℕ) → mode_at bytes ≡ Ok x → Takes bytes (mode_code x.0 ∷ x.1) x.1 (x.0 ≡ Normal)
+mode_takes : (bytes : List ℕ) (x : Mode × List ℕ) → mode_at bytes ≡ Ok x → TakesFront bytes (mode_code x.0 ∷ x.1) x.1 (x.0 ≡ Normal)
 unfolding mode_at
 mode_takes [] x e = absurd cc
 mode_takes (zero ∷ bytes) x e =
-    subst (λ (y : Mode × List ℕ). Takes (0 ∷ bytes) (mode_code y.0 ∷ y.1) y.1 (y.0 ≡ Normal)) (ok_is (Normal, bytes) x e)
+    subst (λ (y : Mode × List ℕ). TakesFront (0 ∷ bytes) (mode_code y.0 ∷ y.1) y.1 (y.0 ≡ Normal)) (ok_is (Normal, bytes) x e)
     (record { parts = λ fits. refl; rest_fits = IsBytes-rest 0 bytes; holds = refl })
 mode_takes (suc b ∷ bytes) x e = absurd cc
 
 medium_takes : (earlier : Name) (bytes : List ℕ) (x : Medium × List ℕ) → medium_at earlier bytes ≡ Ok x
-    → Takes bytes (medium_onto x.0 x.1) x.1 (IsNext earlier x.0)
+    → TakesFront bytes (medium_onto x.0 x.1) x.1 (IsNext earlier x.0)
 unfolding medium_at
 medium_takes earlier bytes x e =
     let a = bind_ok (name_at earlier bytes) (λ name. mode_at name.1 >>= λ mode. Ok (record { name = name.0; mode = mode.0 }, mode.1)) x e in
     let b = bind_ok (mode_at a.0.1) (λ mode. Ok (record { name = a.0.0; mode = mode.0 }, mode.1)) x a.2 in
     let t = name_takes earlier bytes a.0 a.1 in
     let u = mode_takes a.0.1 b.0 b.1 in
-    subst (λ (y : Medium × List ℕ). Takes bytes (medium_onto y.0 y.1) y.1 (IsNext earlier y.0)) (ok_is (record { name = a.0.0; mode = b.0.0 }, b.0.1) x b.2)
+    subst (λ (y : Medium × List ℕ). TakesFront bytes (medium_onto y.0 y.1) y.1 (IsNext earlier y.0)) (ok_is (record { name = a.0.0; mode = b.0.0 }, b.0.1) x b.2)
     (record { parts = λ fits. t.parts fits ∙ ap (name_onto a.0.0) (u.parts (t.rest_fits fits)); rest_fits = λ fits. u.rest_fits (t.rest_fits fits); holds = (record { name = t.holds.0; mode = u.holds }, t.holds.1) })
 
 -- what the rules say of a list of media
@@ -137,7 +137,7 @@ pub record AreMedia (ms : List Medium) : Type 0 where
   pub each : AllByRecursion IsListed ms
 
 pub media_takes : (bytes : List ℕ) (x : List Medium × List ℕ) → media_at bytes ≡ Ok x
-    → Takes bytes (list_onto w16 medium_onto x.0 x.1) x.1 (AreMedia x.0)
+    → TakesFront bytes (list_onto w16 medium_onto x.0 x.1) x.1 (AreMedia x.0)
 unfolding media_at
 media_takes bytes x e =
     let a = bind_ok (limited_at w16 MEDIA_LIMIT bytes) (λ count. items_at medium_at medium_entry_name count.0 [] count.1) x e in

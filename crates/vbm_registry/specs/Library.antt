@@ -10,11 +10,12 @@ use Rattle.vbm_ids.specs.Identifier.{IsSeed}
 use Rattle.vbm_named.specs.Names.{Name, Rises, put_by, without}
 use Rattle.vbm_world.specs.declared.refusals.TheConstants.{MEDIA_LIMIT}
 use Rattle.vbm_registry.specs.declared.media.Medium.{Medium}
+use Rattle.vbm_registry.specs.declared.library.TheConstants.{LIBRARY_NAME}
 use Rattle.vbm_registry.specs.declared.library.Library.{Library}
 
 -- the library's file
 abbrev pub library_name : Name
-library_name = codes "library.vbm"
+library_name = LIBRARY_NAME.now
 
 abbrev pub medium_entry_name : Medium → Name
 medium_entry_name m = m.name

@@ -18,21 +18,21 @@ use Rattle.vbm_registry.specs.declared.reading.DecodeFault.TheVariants as faults
 use Rattle.vbm_registry.specs.Library.{medium_entry_name, head}
 
 -- what a reader gives
-abbrev pub Reads : Type 0 → Type 0
-Reads X = Result (X × List ℕ) ℕ
+abbrev pub Parsed : Type 0 → Type 0
+Parsed X = Result (X × List ℕ) ℕ
 
 infixl 10 ◌>>=◌
 abbrev pub ◌>>=◌ : {A B : Type 0} → Result A ℕ → (A → Result B ℕ) → Result B ℕ
 (Ok x) >>= f = f x
 (Err left) >>= f = Err left
 
-abbrev pub number_at : Width → List ℕ → Reads ℕ
+abbrev pub number_at : Width → List ℕ → Parsed ℕ
 number_at w bytes =
     if nat_lt (length bytes) (byte_len w) then Err (length bytes)
     else Ok (from_le_bytes w (take (byte_len w) bytes), drop (byte_len w) bytes)
 
 -- a number up to a limit
-unfoldable pub limited_at : Width → ℕ → List ℕ → Reads ℕ
+unfoldable pub limited_at : Width → ℕ → List ℕ → Parsed ℕ
 limited_at w most bytes = do
   n ← number_at w bytes
   if nat_lt most n.0 then Err (length bytes) else Ok n
@@ -41,13 +41,13 @@ abbrev pub are_bytes : List ℕ → Bool
 are_bytes bytes = list_all (λ b. nat_lt b 256) bytes
 
 -- sixteen items that are bytes, as all items of a file are
-unfoldable pub seed_at : List ℕ → Reads (List ℕ)
+unfoldable pub seed_at : List ℕ → Parsed (List ℕ)
 seed_at bytes =
     if nat_lt (length bytes) 16 then Err (length bytes)
     else if are_bytes (take 16 bytes) then Ok (take 16 bytes, drop 16 bytes) else Err (length bytes)
 
 -- a medium's name that comes after the one before it
-unfoldable pub name_at : Name → List ℕ → Reads Name
+unfoldable pub name_at : Name → List ℕ → Parsed Name
 name_at earlier [] = Err 0
 name_at earlier (n ∷ rest) =
     if nat_lt (length rest) n then Err (length (n ∷ rest))
@@ -55,19 +55,19 @@ name_at earlier (n ∷ rest) =
     else Err (length (n ∷ rest))
 
 -- a mode: only normal yet
-unfoldable pub mode_at : List ℕ → Reads Mode
+unfoldable pub mode_at : List ℕ → Parsed Mode
 mode_at [] = Err 0
 mode_at (zero ∷ rest) = Ok (Normal, rest)
 mode_at (suc b ∷ rest) = Err (length (suc b ∷ rest))
 
-unfoldable pub medium_at : Name → List ℕ → Reads Medium
+unfoldable pub medium_at : Name → List ℕ → Parsed Medium
 medium_at earlier bytes = do
   name ← name_at earlier bytes
   mode ← mode_at name.1
   Ok (record { name = name.0; mode = mode.0 }, mode.1)
 
 -- so many items, each read by the key of the one before it
-unfoldable pub items_at : {X K : Type 0} → (K → List ℕ → Reads X) → (X → K) → ℕ → K → List ℕ → Reads (List X)
+unfoldable pub items_at : {X K : Type 0} → (K → List ℕ → Parsed X) → (X → K) → ℕ → K → List ℕ → Parsed (List X)
 items_at item_at key_of zero key bytes = Ok ([], bytes)
 items_at item_at key_of (suc n) key bytes = do
   first ← item_at key bytes
@@ -75,13 +75,13 @@ items_at item_at key_of (suc n) key bytes = do
   Ok (first.0 ∷ others.0, others.1)
 
 -- no name comes before the empty one
-unfoldable pub media_at : List ℕ → Reads (List Medium)
+unfoldable pub media_at : List ℕ → Parsed (List Medium)
 media_at bytes = do
   count ← limited_at w16 MEDIA_LIMIT bytes
   items_at medium_at medium_entry_name count.0 [] count.1
 
 -- the counts of what no file lists yet
-unfoldable pub no_more_at : List ℕ → Reads ℕ
+unfoldable pub no_more_at : List ℕ → Parsed ℕ
 no_more_at bytes = do
   inners ← limited_at w16 0 bytes
   machines ← limited_at w16 0 inners.1
@@ -128,9 +128,9 @@ abbrev pub Stops : {Y : Type 0} → Stop → Result Y ℕ → Type 0
 Stops stops.NoMemory read = Unit {0}
 Stops (stops.Left n) read = read ≡ Err n
 
-abbrev pub Gives : {X Y : Type 0} → (X → Y) → Result X Stop → Result Y ℕ → Type 0
-Gives view (Ok x) read = read ≡ Ok (view x)
-Gives view (Err stop) read = Stops stop read
+abbrev pub Agrees : {X Y : Type 0} → (X → Y) → Result X Stop → Result Y ℕ → Type 0
+Agrees view (Ok x) read = read ≡ Ok (view x)
+Agrees view (Err stop) read = Stops stop read
 
 -- What decoding answers is what the file holds, unless memory ran out.
 abbrev pub Decodes : Result Library DecodeFault → Result Library ℕ → Type 0

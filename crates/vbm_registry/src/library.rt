@@ -10,6 +10,9 @@ use uuid::Uuid;
 use vbm_machines::Machines;
 use vbm_ports::{Copied, NoMemory, Sequence, Text};
 
+/// The name of the library's file.
+pub const LIBRARY_NAME: &[u8] = b"library.vbm";
+
 /// An image of the store.
 #[derive(Clone, Copy, Debug, PartialEq, Eq)]
 pub enum ImageRef {

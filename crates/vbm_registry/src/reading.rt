@@ -5,7 +5,7 @@ ghost use Rattle.std.specs.Int.{w8, w16, w64};
 ghost use Rattle.vbm_registry.specs.declared.reading.Stop.TheVariants.{NoMemory as OutOfMemory};
 ghost use Rattle.vbm_named.specs.Names.{is_before as before};
 ghost use Rattle.vbm_registry.specs.Library.{IsLibrary, IsQuiet, spelling, medium_entry_name};
-ghost use Rattle.vbm_registry.specs.Reading.{Gives, number_at, limited_at, seed_at, name_at, mode_at, medium_at, items_at, media_at, no_more_at, fields_at, library_in, Decodes};
+ghost use Rattle.vbm_registry.specs.Reading.{Agrees, number_at, limited_at, seed_at, name_at, mode_at, medium_at, items_at, media_at, no_more_at, fields_at, library_in, Decodes};
 
 use crate::library::Library;
 use crate::media::{Media, Medium};
@@ -40,7 +40,7 @@ impl From<NoMemory> for Stop {
 }
 
 fn u8_at(bytes: &[u8]) -> Result<(u8, &[u8]), Stop>
-    ensures { Gives (λ x. (x.0, x.1.now)) result (number_at w8 bytes.now) }
+    ensures { Agrees (λ x. (x.0, x.1.now)) result (number_at w8 bytes.now) }
 {
     match bytes.split_first_chunk::<1>() {
         Some((front, rest)) => Ok((u8::from_le_bytes(*front), rest)),
@@ -49,7 +49,7 @@ fn u8_at(bytes: &[u8]) -> Result<(u8, &[u8]), Stop>
 }
 
 fn u16_at(bytes: &[u8]) -> Result<(u16, &[u8]), Stop>
-    ensures { Gives (λ x. (x.0, x.1.now)) result (number_at w16 bytes.now) }
+    ensures { Agrees (λ x. (x.0, x.1.now)) result (number_at w16 bytes.now) }
 {
     match bytes.split_first_chunk::<2>() {
         Some((front, rest)) => Ok((u16::from_le_bytes(*front), rest)),
@@ -58,7 +58,7 @@ fn u16_at(bytes: &[u8]) -> Result<(u16, &[u8]), Stop>
 }
 
 fn u64_at(bytes: &[u8]) -> Result<(u64, &[u8]), Stop>
-    ensures { Gives (λ x. (x.0, x.1.now)) result (number_at w64 bytes.now) }
+    ensures { Agrees (λ x. (x.0, x.1.now)) result (number_at w64 bytes.now) }
 {
     match bytes.split_first_chunk::<8>() {
         Some((front, rest)) => Ok((u64::from_le_bytes(*front), rest)),
@@ -68,7 +68,7 @@ fn u64_at(bytes: &[u8]) -> Result<(u64, &[u8]), Stop>
 
 #[tactic(auto, unfolding(crate::specs::Reading::limited_at))]
 fn limited_u8(bytes: &[u8], most: u8) -> Result<(u8, &[u8]), Stop>
-    ensures { Gives (λ x. (x.0, x.1.now)) result (limited_at w8 most bytes.now) }
+    ensures { Agrees (λ x. (x.0, x.1.now)) result (limited_at w8 most bytes.now) }
 {
     let (n, rest) = u8_at(bytes)?;
     if n > most {
@@ -79,7 +79,7 @@ fn limited_u8(bytes: &[u8], most: u8) -> Result<(u8, &[u8]), Stop>
 
 #[tactic(auto, unfolding(crate::specs::Reading::limited_at))]
 fn limited_u16(bytes: &[u8], most: u16) -> Result<(u16, &[u8]), Stop>
-    ensures { Gives (λ x. (x.0, x.1.now)) result (limited_at w16 most bytes.now) }
+    ensures { Agrees (λ x. (x.0, x.1.now)) result (limited_at w16 most bytes.now) }
 {
     let (n, rest) = u16_at(bytes)?;
     if n > most {
@@ -90,7 +90,7 @@ fn limited_u16(bytes: &[u8], most: u16) -> Result<(u16, &[u8]), Stop>
 
 #[tactic(auto, unfolding(crate::specs::Reading::limited_at))]
 fn limited_u64(bytes: &[u8], most: u64) -> Result<(u64, &[u8]), Stop>
-    ensures { Gives (λ x. (x.0, x.1.now)) result (limited_at w64 most bytes.now) }
+    ensures { Agrees (λ x. (x.0, x.1.now)) result (limited_at w64 most bytes.now) }
 {
     let (n, rest) = u64_at(bytes)?;
     if n > most {
@@ -101,7 +101,7 @@ fn limited_u64(bytes: &[u8], most: u64) -> Result<(u64, &[u8]), Stop>
 
 #[tactic(auto, unfolding(crate::specs::Reading::seed_at))]
 fn read_seed(bytes: &[u8]) -> Result<([u8; 16], &[u8]), Stop>
-    ensures { Gives (λ x. (x.0, x.1.now)) result (seed_at bytes.now) }
+    ensures { Agrees (λ x. (x.0, x.1.now)) result (seed_at bytes.now) }
 {
     match bytes.split_first_chunk::<16>() {
         Some((front, rest)) => Ok((*front, rest)),
@@ -111,7 +111,7 @@ fn read_seed(bytes: &[u8]) -> Result<([u8; 16], &[u8]), Stop>
 
 #[tactic(auto, unfolding(crate::specs::Reading::name_at))]
 fn read_name<'a>(earlier: &[u8], bytes: &'a [u8]) -> Result<(&'a [u8], &'a [u8]), Stop>
-    ensures name { Gives (λ x. (x.0.now, x.1.now)) result (name_at earlier.now bytes.now) }
+    ensures name { Agrees (λ x. (x.0.now, x.1.now)) result (name_at earlier.now bytes.now) }
     ensures after { IfOk result (λ x. IsTrue (before earlier.now x.0.now)) }
 {
     match bytes {
@@ -133,7 +133,7 @@ fn read_name<'a>(earlier: &[u8], bytes: &'a [u8]) -> Result<(&'a [u8], &'a [u8])
 
 #[tactic(auto, unfolding(crate::specs::Reading::mode_at))]
 fn read_mode(bytes: &[u8]) -> Result<(Mode, &[u8]), Stop>
-    ensures { Gives (λ x. (x.0, x.1.now)) result (mode_at bytes.now) }
+    ensures { Agrees (λ x. (x.0, x.1.now)) result (mode_at bytes.now) }
 {
     match bytes {
         [] => Err(Stop::Left(0)),
@@ -149,7 +149,7 @@ fn read_medium<'a>(
     earlier: &[u8],
     bytes: &'a [u8],
 ) -> Result<(Medium, &'a [u8], &'a [u8]), Stop>
-    ensures medium { Gives (λ x. (x.0, x.2.now)) result (medium_at earlier.now bytes.now) }
+    ensures medium { Agrees (λ x. (x.0, x.2.now)) result (medium_at earlier.now bytes.now) }
     ensures name { IfOk result (λ x. x.1.now ≡ x.0.name) }
     ensures after { IfOk result (λ x. IsTrue (before earlier.now x.0.name)) }
 {
@@ -163,7 +163,7 @@ fn read_medium<'a>(
 }
 
 fn read_items(alloc: Global, count: u16, bytes: &[u8]) -> Result<(Media, &[u8]), Stop>
-    ensures { Gives (λ x. (x.0, x.1.now)) result (items_at medium_at medium_entry_name count [] bytes.now) }
+    ensures { Agrees (λ x. (x.0, x.1.now)) result (items_at medium_at medium_entry_name count [] bytes.now) }
 {
     let mut media = Media::new(alloc);
     let mut earlier: &[u8] = &[];
@@ -179,7 +179,7 @@ fn read_items(alloc: Global, count: u16, bytes: &[u8]) -> Result<(Media, &[u8]),
 
 #[tactic(auto, unfolding(crate::specs::Reading::media_at))]
 fn read_media(alloc: Global, bytes: &[u8]) -> Result<(Media, &[u8]), Stop>
-    ensures { Gives (λ x. (x.0, x.1.now)) result (media_at bytes.now) }
+    ensures { Agrees (λ x. (x.0, x.1.now)) result (media_at bytes.now) }
 {
     let (count, rest) = limited_u16(bytes, MEDIA_LIMIT as u16)?;
     read_items(alloc, count, rest)
@@ -188,7 +188,7 @@ fn read_media(alloc: Global, bytes: &[u8]) -> Result<(Media, &[u8]), Stop>
 // The counts of inner images, machines, files that are being made, and merges.
 #[tactic(auto, unfolding(crate::specs::Reading::no_more_at))]
 fn read_no_more(bytes: &[u8]) -> Result<(u8, &[u8]), Stop>
-    ensures { Gives (λ x. (x.0, x.1.now)) result (no_more_at bytes.now) }
+    ensures { Agrees (λ x. (x.0, x.1.now)) result (no_more_at bytes.now) }
 {
     let (_, rest) = limited_u16(bytes, 0)?;
     let (_, rest) = limited_u16(rest, 0)?;
@@ -198,7 +198,7 @@ fn read_no_more(bytes: &[u8]) -> Result<(u8, &[u8]), Stop>
 
 #[tactic(auto, unfolding(crate::specs::Reading::fields_at))]
 fn read_fields(alloc: Global, bytes: &[u8]) -> Result<Library, Stop>
-    ensures { Gives (λ l. l) result (fields_at bytes.now) }
+    ensures { Agrees (λ l. l) result (fields_at bytes.now) }
 {
     let (seed, rest) = read_seed(bytes)?;
     let (next, rest) = limited_u64(rest, NUMBER_LIMIT)?;

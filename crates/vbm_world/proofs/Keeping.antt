@@ -48,11 +48,11 @@ found P w refusal (Some x) outcome stays goes = goes x refl
 -- ---- machines, where other media agree in what slots ask of them
 
 -- what a slot asks of its medium
-abbrev pub kind_of : WorldMedium → Mode × ℕ × Bool
-kind_of m = (m.mode, m.capacity, is_some m.flat)
+abbrev pub asked_of : WorldMedium → Mode × ℕ × Bool
+asked_of m = (m.mode, m.capacity, is_some m.flat)
 
 abbrev pub Agree : List WorldMedium → List WorldMedium → WorldSlot → Type 0
-Agree media other s = option_map kind_of (find_by medium_name s.medium other) ≡ option_map kind_of (find_by medium_name s.medium media)
+Agree media other s = option_map asked_of (find_by medium_name s.medium other) ≡ option_map asked_of (find_by medium_name s.medium media)
 
 -- it holds of a machine's slots and of those of its snapshots
 abbrev pub EachSlot : (WorldSlot → Type 0) → WorldMachine → Type 0
@@ -72,12 +72,12 @@ All-named P None snapshots all = tt
 All-named P (Some name) snapshots all =
     slots_found P (find_by snapshot_name name snapshots) (λ s is. All-find snapshot_name (λ s. AllByRecursion P s.slots) name s snapshots all is)
 
-found_kind : (o : Option WorldMedium) (m : WorldMedium) → option_map kind_of o ≡ Some (kind_of m)
-    → (n : WorldMedium) × (o ≡ Some n) × (kind_of n ≡ kind_of m)
-found_kind None m e = absurd cc
-found_kind (Some n) m e = (n, refl, cc)
+found_asked : (o : Option WorldMedium) (m : WorldMedium) → option_map asked_of o ≡ Some (asked_of m)
+    → (n : WorldMedium) × (o ≡ Some n) × (asked_of n ≡ asked_of m)
+found_asked None m e = absurd cc
+found_asked (Some n) m e = (n, refl, cc)
 
-slot_kept : (of_snapshot : Bool) (s : WorldSlot) (m n : WorldMedium) → kind_of n ≡ kind_of m
+slot_kept : (of_snapshot : Bool) (s : WorldSlot) (m n : WorldMedium) → asked_of n ≡ asked_of m
     → IsSoundSlot of_snapshot s m → IsSoundSlot of_snapshot s n
 slot_kept of_snapshot s m n e sound =
     let mode : n.mode ≡ m.mode = ap (λ (k : Mode × ℕ × Bool). k.0) e in
@@ -90,15 +90,15 @@ slot_kept of_snapshot s m n e sound =
       autoreset = rw mode sound.autoreset;
     }
 
-normal_kept : (o p : Option WorldMedium) → option_map kind_of o ≡ option_map kind_of p → is_some_normal o ≡ is_some_normal p
+normal_kept : (o p : Option WorldMedium) → option_map asked_of o ≡ option_map asked_of p → is_some_normal o ≡ is_some_normal p
 normal_kept None None e = refl
-normal_kept (Some m) (Some n) e = let same : kind_of m ≡ kind_of n = cc in ap (λ (k : Mode × ℕ × Bool). is_normal k.0) same
+normal_kept (Some m) (Some n) e = let same : asked_of m ≡ asked_of n = cc in ap (λ (k : Mode × ℕ × Bool). is_normal k.0) same
 normal_kept o p e = absurd cc
 
 module _ (media other : List WorldMedium) where
   placed_kept : (of_snapshot : Bool) (s : WorldSlot) → Agree media other s → IsPlaced media of_snapshot s → IsPlaced other of_snapshot s
   placed_kept of_snapshot s agree placed =
-      let f = found_kind (find_by medium_name s.medium other) placed.0 (agree ∙ ap (option_map kind_of) placed.1) in
+      let f = found_asked (find_by medium_name s.medium other) placed.0 (agree ∙ ap (option_map asked_of) placed.1) in
       (f.0, f.1, slot_kept of_snapshot s placed.0 f.0 f.2 placed.2)
 
   slots_kept : (of_snapshot : Bool) (slots : List WorldSlot) → AllByRecursion (Agree media other) slots
@@ -143,7 +143,7 @@ module _ (name : Name) (machines : List WorldMachine) where
       → ((n : Name) → bytes_eq n name ≡ false → find_by medium_name n other ≡ find_by medium_name n media)
       → AllByRecursion (IsSoundMachine media) machines → AllByRecursion (IsSoundMachine other) machines
   machines_kept media other unused same sound = All-join _ _ _ (λ m others. machine_kept media other m
-      (EachSlot-map _ (Agree media other) (λ s apart. ap (option_map kind_of) (same s.medium apart)) m others)) machines (used_not unused) sound
+      (EachSlot-map _ (Agree media other) (λ s apart. ap (option_map asked_of) (same s.medium apart)) m others)) machines (used_not unused) sound
 
   has_none : (media : List WorldMedium) (of_snapshot : Bool) (slots : List WorldSlot) → find_by medium_name name media ≡ None
       → AreSoundSlots media of_snapshot slots → has_medium name slots ≡ false

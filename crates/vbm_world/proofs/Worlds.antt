@@ -20,7 +20,7 @@ use Rattle.vbm_world.specs.Step.{step_of}
 use Rattle.vbm_world.specs.Loose.{Unsettled, all_settled, is_refused, is_direct, loose_of_medium, IsLikeDisk, AreAlike, IsLikeMedium, IsLikeSlot, IsLikeMachine, IsLoosely}
 use Rattle.vbm_world.specs.Sound.{IsSoundMachine, first_count, IsSound}
 use Rattle.vbm_named.proofs.Lists.{All-every, All-map, All-of_map, any_none, any_map, find_map, has_map, rises_map}
-use Rattle.vbm_world.proofs.Keeping.{kind_of, Agree, EachSlot, machine_kept, shelf_kept}
+use Rattle.vbm_world.proofs.Keeping.{asked_of, Agree, EachSlot, machine_kept, shelf_kept}
 
 -- ---- the number of a step
 
@@ -41,7 +41,7 @@ map_twice f once (x ∷ xs) = λ i. once x i ∷ map_twice f once xs i
 pub off_off : (w : World) → off (off w) ≡ off w
 off_off w = λ i. record w { media = map_twice medium_off (λ m. refl) w.media i; machines = map_twice machine_off (λ m. refl) w.machines i }
 
-kind_off : (o : Option WorldMedium) → option_map kind_of (option_map medium_off o) ≡ option_map kind_of o
+kind_off : (o : Option WorldMedium) → option_map asked_of (option_map medium_off o) ≡ option_map asked_of o
 kind_off None = refl
 kind_off (Some m) = refl
 
@@ -50,7 +50,7 @@ frozen_off machines m = rw (any_map machine_off (is_in_snapshot m.name) machines
 
 machine_off_sound : (media : List WorldMedium) (m : WorldMachine) → IsSoundMachine media m → IsSoundMachine (map medium_off media) (machine_off m)
 machine_off_sound media m sound =
-    let agree = λ (s : WorldSlot). ap (option_map kind_of) (find_map medium_off medium_name medium_name (λ n. refl) s.medium media) ∙ kind_off _ in
+    let agree = λ (s : WorldSlot). ap (option_map asked_of) (find_map medium_off medium_name medium_name (λ n. refl) s.medium media) ∙ kind_off _ in
     let other = map medium_off media in
     let each : EachSlot (Agree media other) m = (All-every _ agree m.slots, All-every _ (λ s. All-every _ agree s.slots) m.snapshots) in
     let kept = machine_kept media other m each sound in

@@ -18,7 +18,7 @@ use Rattle.vbm_named.specs.Names.{Name, find_by, has_name, Rises}
 use Rattle.vbm_world.specs.World.{World, medium_name, machine_name, snapshot_name, has_medium, is_normal, is_frozen}
 use Rattle.vbm_world.specs.Loose.{is_direct}
 use Rattle.vbm_world.specs.Refusals.{is_bad_size}
-use Rattle.vbm_world.specs.Tree.{IsTree, link_of}
+use Rattle.vbm_world.specs.Tree.{IsTree, branch_of}
 
 abbrev pub is_immutable : Mode → Bool
 is_immutable Normal = false
@@ -99,7 +99,7 @@ Inherits media upper lower =
     AllByRecursion (λ (s : WorldSlot). IsTrue (is_of_normal media s) → IsTrue (has_at s.port s.medium lower)) upper
 
 pub record IsSoundMachine (media : List WorldMedium) (m : WorldMachine) : Type 0 where
-  pub tree : IsTree (map link_of m.snapshots) m.current
+  pub tree : IsTree (map branch_of m.snapshots) m.current
   pub slots : AreSoundSlots media false m.slots
   pub places : AllByRecursion (λ (s : WorldSnapshot). AreSoundSlots media true s.slots) m.snapshots
   -- a snapshot's normal media are those of its children too, and those of the current one are the machine's

@@ -5,28 +5,28 @@ use Rattle.vbm_named.specs.Names.{Name, has_name, Rises}
 use Rattle.vbm_world.specs.declared.world.WorldSnapshot.{WorldSnapshot}
 
 -- a snapshot's name, and that of the snapshot that it was taken after
-abbrev pub Link : Type 0
-Link = Name × Option Name
+abbrev pub Branch : Type 0
+Branch = Name × Option Name
 
-abbrev pub link_of : WorldSnapshot → Link
-link_of s = (s.name, s.parent)
+abbrev pub branch_of : WorldSnapshot → Branch
+branch_of s = (s.name, s.parent)
 
-abbrev pub link_name : Link → Name
-link_name link = link.0
+abbrev pub branch_name : Branch → Name
+branch_name branch = branch.0
 
-abbrev pub is_root : Link → Bool
-is_root link = is_none link.1
+abbrev pub is_root : Branch → Bool
+is_root branch = is_none branch.1
 
-abbrev pub Has : List Link → Name → Type 0
-Has links name = IsTrue (has_name link_name name links)
+abbrev pub Has : List Branch → Name → Type 0
+Has branches name = IsTrue (has_name branch_name name branches)
 
 -- The snapshots are one tree with one root: each parent is one of them, and less deep. The current one is none exactly where there are
 -- no snapshots.
-pub record IsTree (links : List Link) (current : Option Name) : Type 0 where
-  pub names : Rises link_name links
-  pub parents : AllByRecursion (λ (l : Link). IfSome l.1 (Has links)) links
+pub record IsTree (branches : List Branch) (current : Option Name) : Type 0 where
+  pub names : Rises branch_name branches
+  pub parents : AllByRecursion (λ (b : Branch). IfSome b.1 (Has branches)) branches
   pub depth : Name → ℕ
-  pub below : AllByRecursion (λ (l : Link). IfSome l.1 (λ parent. depth parent < depth l.0)) links
-  pub root : count_by is_root links ≤ 1
-  pub there : IfSome current (Has links)
-  pub none : is_none current ≡ (length links == 0)
+  pub below : AllByRecursion (λ (b : Branch). IfSome b.1 (λ parent. depth parent < depth b.0)) branches
+  pub root : count_by is_root branches ≤ 1
+  pub there : IfSome current (Has branches)
+  pub none : is_none current ≡ (length branches == 0)
