@@ -7,7 +7,7 @@ use Rattle.std.proofs.lemmas.Bool.{cases_Bool, le-leb}
 use Rattle.std.proofs.lemmas.Slice.Eq.{bytes_eq-Decides}
 use Rattle.std.specs.Int.{to_le_bytes, w32}
 use Rattle.std.specs.Str.{bytes_eq}
-use Rattle.std.specs.Prelude.{nat_le, unwrap_or, Result, Ok, Err, OnOk, OnErr}
+use Rattle.std.specs.Prelude.{nat_le, unwrap_or}
 use Rattle.vbm_ports.proofs.NameLemmas.{store_name_short}
 use Rattle.vbm_intent.specs.declared.change.Change.{Change}
 use Rattle.vbm_intent.specs.declared.change.Change.TheVariants.{Write, Fill, Cut, Remove}
@@ -109,25 +109,28 @@ size_shown (b ∷ bytes) cs n is same = omega (arith, whole_size (b ∷ bytes) c
 pub name_short : (c : Change) → IsAllowed c → length (name_of c) < 256
 name_short c allowed = omega (arith, store_name_short (name_of c) allowed.store)
 
--- a push is done, or nothing has changed
-pub push_done : {A B : Type 0} (r : Result A B) (old new : List ℕ) (cs : List Change) (c : Change) → OnOk r (new ≡ with_change (record_of old) c) → OnErr r (new ≡ old)
+-- bytes that have one change more hold a plan with that change at its end
+pub push_done : (old new : List ℕ) (cs : List Change) (c : Change) → new ≡ with_change (record_of old) c
     → plan_of old ≡ cs → IsWholeRecord (record_of old) (plan_of old) → IsAllowed c → IsApart (of_file (name_of c) (cs ++ c ∷ []))
-    → body_size cs + text_size c ≤ 2 ^ 25 → length cs < 2 ^ 16 → IsWholeRecord (record_of new) (plan_of new) × OnOk r (plan_of new ≡ cs ++ c ∷ [])
-push_done (Ok x) old new cs c ok err was is allowed apart small few =
+    → body_size cs + text_size c ≤ 2 ^ 25 → length cs < 2 ^ 16 → IsWholeRecord (record_of new) (plan_of new) × (plan_of new ≡ cs ++ c ∷ [])
+push_done old new cs c done was is allowed apart small few =
     let whole : IsWholeRecord (with_change (record_of old) c) (cs ++ c ∷ []) = whole_push (record_of old) cs c (subst (λ l. IsWholeRecord (record_of old) l) was is) allowed apart small few in
-    let here : IsWholeRecord (record_of new) (cs ++ c ∷ []) = subst (λ l. IsWholeRecord l (cs ++ c ∷ [])) (sym (ap record_of ok)) whole in
+    let here : IsWholeRecord (record_of new) (cs ++ c ∷ []) = subst (λ l. IsWholeRecord l (cs ++ c ∷ [])) (sym (ap record_of done)) whole in
     let changes : plan_of new ≡ cs ++ c ∷ [] = ap (λ (o : Option (List Change)). unwrap_or o []) here.plan.changes in
     (subst (λ l. IsWholeRecord (record_of new) l) (sym changes) here, changes)
-push_done (Err e) old new cs c ok err was is allowed apart small few = (subst (λ l. IsWholeRecord (record_of l) (plan_of l)) (sym err) is, tt)
 
-pub push_spare : {A B : Type 0} (r : Result A B) (old new : List ℕ) (c : Change) (capacity capacity' : ℕ) → OnOk r (new ≡ with_change (record_of old) c) → OnErr r (new ≡ old)
+-- it takes no more room than its bytes
+pub push_spare : (old new : List ℕ) (c : Change) (capacity capacity' : ℕ) → new ≡ with_change (record_of old) c
     → 8 ≤ length (record_of old) → capacity ≤ capacity' → spare_in capacity old ≤ spare_in capacity' new + text_size c
-push_spare (Ok x) old new c capacity capacity' ok err head more =
-    let grown : length (record_of new) ≡ length (with_change (record_of old) c) = ap (λ (l : List ℕ). length (record_of l)) ok in
+push_spare old new c capacity capacity' done head more =
+    let grown : length (record_of new) ≡ length (with_change (record_of old) c) = ap (λ (l : List ℕ). length (record_of l)) done in
     omega (arith, grown, length-append (drop 8 (record_of old)) (text_of c), length-drop 8 (record_of old), text_length c, head, more)
-push_spare (Err e) old new c capacity capacity' ok err head more =
-    let same : length (record_of new) ≡ length (record_of old) = ap (λ (l : List ℕ). length (record_of l)) err in
-    omega (arith, same, more)
+
+-- a plan that is cleared gets back the room of its changes
+pub clear_spare : (bytes : List ℕ) (cs : List Change) (capacity capacity' : ℕ) → IsWholeRecord (record_of bytes) cs → length bytes ≤ capacity → capacity ≤ capacity'
+    → spare_in capacity bytes + body_size cs ≤ spare_in capacity' []
+clear_spare [] cs capacity capacity' is room more = omega (arith, whole_size (record_of []) cs is, more)
+clear_spare (b ∷ bytes) cs capacity capacity' is room more = omega (arith, whole_size (b ∷ bytes) cs is, room, more)
 
 -- the head is set once the change stands behind the record
 pub head_set : (text : List ℕ) (c : Change) (long new : List ℕ) (n size count : ℕ) → 8 ≤ length text → long ≡ text ++ text_of c

@@ -1,5 +1,9 @@
 //! One change of one file.
 
+ghost use Rattle.std.specs.Prelude.{◌≡◌};
+ghost use Rattle.vbm_intent.specs.Pieces.{change_in};
+
+use crate::record::Piece;
 use vbm_ports::{Bytes, Text};
 
 /// A change of one file. Places and lengths are in bytes.
@@ -27,4 +31,35 @@ pub enum Change {
     Remove {
         name: Text,
     },
+}
+
+impl Change {
+    /// Lends the change as a record's.
+    pub(crate) fn piece(&self) -> Piece<'_>
+        ensures { change_in result ≡ self.now }
+    {
+        match self {
+            Change::Write { name, at, bytes } => Piece::Write {
+                name: name.bytes(),
+                at: *at,
+                bytes: bytes.as_slice(),
+            },
+            Change::Fill {
+                name,
+                at,
+                len,
+                byte,
+            } => Piece::Fill {
+                name: name.bytes(),
+                at: *at,
+                len: *len,
+                byte: *byte,
+            },
+            Change::Cut { name, len } => Piece::Cut {
+                name: name.bytes(),
+                len: *len,
+            },
+            Change::Remove { name } => Piece::Remove { name: name.bytes() },
+        }
+    }
 }

@@ -4,10 +4,12 @@ ghost use Rattle.std.specs.Prelude.{◌≡◌, ◌+◌, ◌^◌, ◌<◌, ◌≤
 ghost use Rattle.std.specs.Int.{to_le_bytes, w32};
 ghost use Rattle.vbm_intent.specs.Changes.{name_of, of_file, IsAllowed, IsApart, IsRecordable};
 ghost use Rattle.vbm_intent.specs.Record.{IsRecord, IsPlan, count_of};
+ghost use Rattle.vbm_intent.specs.Pieces.{change_in};
+ghost use Rattle.vbm_intent.specs.declared.change.Change.TheVariants.{Write};
 ghost use Rattle.vbm_intent.specs.Plan.{text_of, text_size, body_size, record_of, changes_of_record, spare_in, with_change, set_bytes, HasBytesAt, IsPlaceOf, IsWholeRecord};
 
 use crate::Change;
-use crate::record::{Changes, first_piece, u32_at};
+use crate::record::{Changes, Piece, first_piece, u32_at};
 use std::alloc::Global;
 use std::marker::Model;
 use vbm_ports::NoMemory;
@@ -52,7 +54,24 @@ impl Plan {
         ensures full { OnErr result (self.old.spare < text_size change) }
         ensures spare { self.old.spare ≤ self.new.spare + text_size change }
     {
-        push_onto(&mut self.text, &change)
+        let piece = change.piece();
+        reserve_in(&mut self.text, size_of_text(&piece))?;
+        push_onto(&mut self.text, &piece);
+        Ok(())
+    }
+
+    /// Adds a write of these bytes at the end, in the room that is there. It takes no memory.
+    pub fn push_write(&mut self, name: &[u8], at: u64, bytes: &[u8])
+        requires allowed { IsAllowed (Write name.now at bytes.now) }
+        requires recordable { IsRecordable (Write name.now at bytes.now) }
+        requires apart { IsApart (of_file name.now (self.old.changes ++ Write name.now at bytes.now ∷ [])) }
+        requires small { body_size self.old.changes + text_size (Write name.now at bytes.now) ≤ 2 ^ 25 }
+        requires few { length self.old.changes < 2 ^ 16 }
+        requires room { text_size (Write name.now at bytes.now) ≤ self.old.spare }
+        ensures changes { self.new.changes ≡ self.old.changes ++ Write name.now at bytes.now ∷ [] }
+        ensures spare { self.old.spare ≤ self.new.spare + text_size (Write name.now at bytes.now) }
+    {
+        push_onto(&mut self.text, &Piece::Write { name, at, bytes });
     }
 
     /// Replaces bytes of the write with this index, from a place in them on. It takes no memory.
@@ -86,7 +105,7 @@ impl Plan {
     /// Removes all changes, and keeps the room.
     pub fn clear(&mut self)
         ensures none { self.new.changes ≡ [] }
-        ensures spare { self.old.spare ≤ self.new.spare }
+        ensures spare { self.old.spare + body_size self.old.changes ≤ self.new.spare }
     {
         self.text.clear();
     }
@@ -118,20 +137,20 @@ fn record_text(text: &Vec<u8>) -> &[u8]
 }
 
 // How many bytes a change has in a record.
-fn size_of_text(change: &Change) -> usize
-    requires { text_size change.now ≤ 2 ^ 25 }
-    ensures { result ≡ text_size change.now }
+fn size_of_text(piece: &Piece) -> usize
+    requires { text_size (change_in piece.now) ≤ 2 ^ 25 }
+    ensures { result ≡ text_size (change_in piece.now) }
 {
-    match change {
-        Change::Write { name, at: _, bytes } => 14 + name.bytes().len() + bytes.len(),
-        Change::Fill {
+    match *piece {
+        Piece::Write { name, at: _, bytes } => 14 + name.len() + bytes.len(),
+        Piece::Fill {
             name,
             at: _,
             len: _,
             byte: _,
-        } => 19 + name.bytes().len(),
-        Change::Cut { name, len: _ } => 10 + name.bytes().len(),
-        Change::Remove { name } => 2 + name.bytes().len(),
+        } => 19 + name.len(),
+        Piece::Cut { name, len: _ } => 10 + name.len(),
+        Piece::Remove { name } => 2 + name.len(),
     }
 }
 
@@ -169,36 +188,36 @@ fn put_name(text: &mut Vec<u8>, kind: u8, name: &[u8])
     put(text, name);
 }
 
-fn put_change(text: &mut Vec<u8>, change: &Change)
-    requires short { length (name_of change.now) < 256 }
-    requires recordable { IsRecordable change.now }
-    requires room { length text.old.items + text_size change.now ≤ vec_capacity text.old }
-    ensures items { text.new.items ≡ text.old.items ++ text_of change.now }
+fn put_change(text: &mut Vec<u8>, piece: &Piece)
+    requires short { length (name_of (change_in piece.now)) < 256 }
+    requires recordable { IsRecordable (change_in piece.now) }
+    requires room { length text.old.items + text_size (change_in piece.now) ≤ vec_capacity text.old }
+    ensures items { text.new.items ≡ text.old.items ++ text_of (change_in piece.now) }
     ensures capacity { vec_capacity text.old ≤ vec_capacity text.new }
 {
-    match change {
-        Change::Write { name, at, bytes } => {
-            put_name(text, 1, name.bytes());
+    match *piece {
+        Piece::Write { name, at, bytes } => {
+            put_name(text, 1, name);
             put(text, &at.to_le_bytes());
             put(text, &(bytes.len() as u32).to_le_bytes());
-            put(text, bytes.as_slice());
+            put(text, bytes);
         }
-        Change::Fill {
+        Piece::Fill {
             name,
             at,
             len,
             byte,
         } => {
-            put_name(text, 2, name.bytes());
+            put_name(text, 2, name);
             put(text, &at.to_le_bytes());
             put(text, &len.to_le_bytes());
-            put(text, &[*byte]);
+            put(text, &[byte]);
         }
-        Change::Cut { name, len } => {
-            put_name(text, 3, name.bytes());
+        Piece::Cut { name, len } => {
+            put_name(text, 3, name);
             put(text, &len.to_le_bytes());
         }
-        Change::Remove { name } => put_name(text, 4, name.bytes()),
+        Piece::Remove { name } => put_name(text, 4, name),
     }
 }
 
@@ -221,25 +240,22 @@ fn set_head(text: &mut [u8], size: u32, count: u32)
     text[4..8].copy_from_slice(&count.to_le_bytes());
 }
 
-// Puts a change behind the record, or changes nothing.
-fn push_onto(text: &mut Vec<u8>, change: &Change) -> Result<(), NoMemory>
+// Puts a change behind the record, in the room that is there.
+fn push_onto(text: &mut Vec<u8>, piece: &Piece)
     requires head { 8 ≤ length (record_of text.old.items) }
-    requires small { length (record_of text.old.items) + text_size change.now ≤ 2 ^ 25 + 8 }
+    requires small { length (record_of text.old.items) + text_size (change_in piece.now) ≤ 2 ^ 25 + 8 }
     requires few { count_of (record_of text.old.items) < 2 ^ 16 }
-    requires short { length (name_of change.now) < 256 }
-    ensures ok { OnOk result (text.new.items ≡ with_change (record_of text.old.items) change.now) }
-    ensures err { OnErr result (text.new.items ≡ text.old.items) }
-    ensures kept { OnErr result (vec_capacity text.new ≡ vec_capacity text.old) }
-    ensures full { OnErr result (vec_capacity text.old < length (record_of text.old.items) + text_size change.now) }
+    requires short { length (name_of (change_in piece.now)) < 256 }
+    requires recordable { IsRecordable (change_in piece.now) }
+    requires room { length (record_of text.old.items) + text_size (change_in piece.now) ≤ vec_capacity text.old }
+    ensures items { text.new.items ≡ with_change (record_of text.old.items) (change_in piece.now) }
     ensures capacity { vec_capacity text.old ≤ vec_capacity text.new }
 {
-    reserve_in(text, size_of_text(change))?;
     put_head(text);
     let count = u32_at(text, 4) + 1;
-    put_change(text, change);
+    put_change(text, piece);
     let size = text.len() - 8;
     set_head(text, size as u32, count);
-    Ok(())
 }
 
 // Where the bytes of a write lie in a record.
