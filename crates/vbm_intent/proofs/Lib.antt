@@ -1,16 +1,17 @@
 mod Allowed
 mod Apart
 pub mod Applying
-mod Commits
+pub mod Commits
 mod FilePartly
-mod Fills
+pub mod Fills
 mod Fitting
 mod Places
-mod Pushes
+pub mod Pushes
 mod Records
 pub mod Redos
 mod Sets
-mod Starts
-mod TornLog
+pub mod Starts
+pub mod TornLog
+mod Unread
 mod Walks
-mod Wholes
+pub mod Wholes

@@ -1,7 +1,7 @@
 -- The log `intent.vbm`: a gate byte, 7 unread bytes, and a record. Redo applies the record of a log whose gate is open.
-use Rattle.std.specs.Prelude.{◌≡◌, ◌≢◌, ℕ, ◌^◌, ◌≤◌, min, List, [], ◌∷◌, length, drop, Option, Some, None}
+use Rattle.std.specs.Prelude.{◌≡◌, ◌≢◌, ℕ, ◌^◌, ◌<◌, ◌≤◌, min, List, [], ◌∷◌, ◌++◌, length, take, drop, replicate, Option, Some, None}
 use Rattle.std.proofs.Common.{sym, ◌∙◌, ap}
-use Rattle.vbm_ports.specs.Files.{Files, bytes_of}
+use Rattle.vbm_ports.specs.Files.{Files, bytes_of, put}
 use Rattle.vbm_intent.specs.declared.change.Change.{Change}
 use Rattle.vbm_intent.specs.Changes.{log_name, changed, Fits}
 use Rattle.vbm_intent.specs.Record.{body_length, IsRecord}
@@ -26,6 +26,10 @@ IsShutInAll images = (image : Files) → images image → IsShut (image log_name
 abbrev pub recorded_size : Option (List ℕ) → ℕ
 recorded_size file = min (body_length (drop 8 (bytes_of file))) (2 ^ 25)
 
+-- the seven bytes behind the gate that nothing reads; those that are missing are 0
+abbrev pub unread_of : Option (List ℕ) → List ℕ
+unread_of file = take 7 (drop 1 (bytes_of file) ++ replicate 7 0)
+
 -- the gate is open, and these changes are the record's and fit the files
 pub record IsPending (files : Files) (cs : List Change) : Type 0 where
   pub opens : IsOpen (files log_name)
@@ -49,6 +53,15 @@ redo_has_one_result files a b (pending cs p is) (pending ds q is') =
 pub record IsBadLog (files : Files) : Type 0 where
   pub opens : IsOpen (files log_name)
   pub none : (cs : List Change) → IsPending files cs → ⊥
+
+-- The log's file once it is started: as before, or, where it was absent or shorter than 16 bytes, with a first byte of 0.
+pub data IsStarted (old new : Option (List ℕ)) : Type 0 where
+  kept : 16 ≤ length (bytes_of old) → new ≡ old → IsStarted old new
+  begun : length (bytes_of old) < 16 → new ≡ Some (put 0 (0 ∷ []) (bytes_of old)) → IsStarted old new
+
+-- The log's file after a commit: the gate byte is 0, and the seven bytes behind it are as before; those that were missing are 0.
+abbrev pub IsCommitted : Option (List ℕ) → Option (List ℕ) → Type 0
+IsCommitted old new = take 8 (bytes_of new) ≡ 0 ∷ unread_of old
 
 -- every file but the log is the same
 abbrev pub SameBesidesLog : Files → Files → Type 0

@@ -1,4 +1,5 @@
 -- How redo ended.
+use Rattle.std.specs.Prelude.{Bool, true, false}
 use Rattle.vbm_intent.specs.declared.recovery.Redone.{Redone}
 use Rattle.vbm_intent.specs.declared.recovery.Redone.TheVariants.{Done, Failed, BadLog}
 
@@ -19,3 +20,9 @@ abbrev pub OnFailed : Redone → Type 0 → Type 0
 OnFailed (Done log) P = Unit {0}
 OnFailed Failed P = P
 OnFailed BadLog P = Unit {0}
+
+-- a device failed
+abbrev pub is_failed : Redone → Bool
+is_failed (Done log) = false
+is_failed Failed = true
+is_failed BadLog = false

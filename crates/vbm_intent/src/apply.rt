@@ -31,6 +31,7 @@ fn fill<D: Disk>(disk: &mut D, name: &[u8], at: u64, len: u64, byte: u8) -> Resu
         → Passes (D.state disk.old) (D.state disk.new) (Through (WriteLeaves name.now at len (D.state disk.old).files) (D.state disk.old).may_leave) }
     ensures faults { (D.state disk.old).faults ≤ (D.state disk.new).faults }
     ensures cause { OnErr result (Rose (D.state disk.old).faults (D.state disk.new).faults) }
+    ensures no_fault { OnOk result ((D.state disk.new).faults ≡ (D.state disk.old).faults) }
 {
     if byte == 0 {
         return fill_zeros(disk, name, at, len);
@@ -52,6 +53,7 @@ fn fill_zeros<D: Disk>(disk: &mut D, name: &[u8], at: u64, len: u64) -> Result<(
         → Passes (D.state disk.old) (D.state disk.new) (Through (WriteLeaves name.now at len (D.state disk.old).files) (D.state disk.old).may_leave) }
     ensures faults { (D.state disk.old).faults ≤ (D.state disk.new).faults }
     ensures cause { OnErr result (Rose (D.state disk.old).faults (D.state disk.new).faults) }
+    ensures no_fault { OnOk result ((D.state disk.new).faults ≡ (D.state disk.old).faults) }
 {
     let end = disk.length(name)?.unwrap_or(0);
     fill_to_end(disk, name, at, len, end)
@@ -78,6 +80,7 @@ fn fill_to_end<D: Disk>(
         → Passes (D.state disk.old) (D.state disk.new) (Through (WriteLeaves name.now at len (D.state disk.old).files) (D.state disk.old).may_leave) }
     ensures faults { (D.state disk.old).faults ≤ (D.state disk.new).faults }
     ensures cause { OnErr result (Rose (D.state disk.old).faults (D.state disk.new).faults) }
+    ensures no_fault { OnOk result ((D.state disk.new).faults ≡ (D.state disk.old).faults) }
 {
     if at + len <= end {
         return fill_pieces(disk, name, at, len, 0);
@@ -102,6 +105,7 @@ fn write_last_zero<D: Disk>(disk: &mut D, name: &[u8], end: u64, n: u64) -> Resu
     ensures time { Passes (D.state disk.old) (D.state disk.new) (D.state disk.new).may_leave }
     ensures faults { (D.state disk.old).faults ≤ (D.state disk.new).faults }
     ensures cause { OnErr result (Rose (D.state disk.old).faults (D.state disk.new).faults) }
+    ensures no_fault { OnOk result ((D.state disk.new).faults ≡ (D.state disk.old).faults) }
 {
     disk.write(name, end + n - 1, &[0])
 }
@@ -126,6 +130,7 @@ fn fill_pieces<D: Disk>(
         → Passes (D.state disk.old) (D.state disk.new) (Through (WriteLeaves name.now at len (D.state disk.old).files) (D.state disk.old).may_leave) }
     ensures faults { (D.state disk.old).faults ≤ (D.state disk.new).faults }
     ensures cause { OnErr result (Rose (D.state disk.old).faults (D.state disk.new).faults) }
+    ensures no_fault { OnOk result ((D.state disk.new).faults ≡ (D.state disk.old).faults) }
 {
     let mut done = 0u64;
     while done < len {
@@ -155,6 +160,7 @@ fn write_copies<D: Disk>(
     ensures time { Passes (D.state disk.old) (D.state disk.new) (D.state disk.new).may_leave }
     ensures faults { (D.state disk.old).faults ≤ (D.state disk.new).faults }
     ensures cause { OnErr result (Rose (D.state disk.old).faults (D.state disk.new).faults) }
+    ensures no_fault { OnOk result ((D.state disk.new).faults ≡ (D.state disk.old).faults) }
 {
     let piece = [byte; PIECE];
     disk.write(name, at, &piece[..n])
@@ -174,6 +180,7 @@ fn apply_one<D: Disk>(disk: &mut D, piece: &Piece) -> Result<(), Failed>
         → Passes (D.state disk.old) (D.state disk.new) (Through (ChangeLeaves (change_in piece.now) (D.state disk.old).files) (D.state disk.old).may_leave) }
     ensures faults { (D.state disk.old).faults ≤ (D.state disk.new).faults }
     ensures cause { OnErr result (Rose (D.state disk.old).faults (D.state disk.new).faults) }
+    ensures no_fault { OnOk result ((D.state disk.new).faults ≡ (D.state disk.old).faults) }
 {
     match *piece {
         Piece::Write { name, at, bytes } => disk.write(name, at, bytes),
@@ -202,6 +209,7 @@ pub(crate) fn apply<D: Disk>(disk: &mut D, changes: Changes) -> Result<(), Faile
         → Passes (D.state disk.old) (D.state disk.new) (IsPartly changes.entry (D.state disk.old).files) }
     ensures faults { (D.state disk.old).faults ≤ (D.state disk.new).faults }
     ensures cause { OnErr result (Rose (D.state disk.old).faults (D.state disk.new).faults) }
+    ensures no_fault { OnOk result ((D.state disk.new).faults ≡ (D.state disk.old).faults) }
 {
     let mut left = changes;
     while let Some(piece) = left.next() {

@@ -1,6 +1,6 @@
 //! Whether a record may be redone.
 
-ghost use Rattle.std.specs.Prelude.{◌≡◌, ◌⊎◌, ◌↔◌, ℕ, ◌^◌, ◌<◌, ◌≤◌, List, [], ◌∷◌, length, take, Option, MatchOption, IfOk, IfSome, OnErr, IsTrue, All};
+ghost use Rattle.std.specs.Prelude.{◌≡◌, ◌⊎◌, ◌↔◌, ℕ, ◌^◌, ◌<◌, ◌≤◌, List, [], ◌∷◌, length, take, Option, MatchOption, IfOk, IfSome, OnOk, OnErr, IsTrue, All};
 ghost use Rattle.vbm_ports.specs.Files.{bytes_of};
 ghost use Rattle.vbm_ports.specs.Counts.{Rose};
 ghost use Rattle.vbm_ports.specs.Disk.{OnlyReads};
@@ -256,6 +256,7 @@ fn begins_within<D: Disk>(
         ↔ start_of (change_in piece.now) ≤ length (bytes_of (changed (take made changes.entry) (D.state disk.old).files (name_of (change_in piece.now))))) }
     ensures reads { OnlyReads D.tells (D.state disk.old) (D.state disk.new) }
     ensures cause { OnErr result (Rose (D.state disk.old).faults (D.state disk.new).faults) }
+    ensures no_fault { OnOk result ((D.state disk.new).faults ≡ (D.state disk.old).faults) }
 {
     let at = start(piece);
     let len = disk.length(piece.name())?.unwrap_or(0);
@@ -293,6 +294,7 @@ fn fit<D: Disk>(disk: &mut D, changes: &Changes) -> Result<bool, Failed>
     ensures answer { D.tells → IfOk result (λ fit. IsTrue fit ↔ Fits changes.now (D.state disk.old).files) }
     ensures reads { OnlyReads D.tells (D.state disk.old) (D.state disk.new) }
     ensures cause { OnErr result (Rose (D.state disk.old).faults (D.state disk.new).faults) }
+    ensures no_fault { OnOk result ((D.state disk.new).faults ≡ (D.state disk.old).faults) }
 {
     let mut left = changes.again();
     let mut made = 0;
@@ -316,6 +318,7 @@ pub(crate) fn pending<'a, D: Disk>(
     ensures plan { IfOk result (λ found. IfSome found (λ cs. IsPlan cs)) }
     ensures reads { OnlyReads D.tells (D.state disk.old) (D.state disk.new) }
     ensures cause { OnErr result (Rose (D.state disk.old).faults (D.state disk.new).faults) }
+    ensures no_fault { OnOk result ((D.state disk.new).faults ≡ (D.state disk.old).faults) }
 {
     let Some(changes) = planned(text) else {
         return Ok(None);

@@ -2,13 +2,13 @@
 
 ghost use Rattle.std.specs.Prelude.{◌≡◌, ◌+◌, ◌^◌, ◌≤◌, ℕ, List, length, drop, IfOk, IfSome, MatchOption, OnOk, OnErr};
 ghost use Rattle.vbm_ports.specs.Files.{Files, bytes_of};
-ghost use Rattle.vbm_ports.specs.Counts.{Rose};
+ghost use Rattle.vbm_ports.specs.Counts.{Rose, IsCounted};
 ghost use Rattle.vbm_ports.specs.Crash.{Only};
 ghost use Rattle.vbm_ports.specs.Disk.{Passes, OnlyReads};
 ghost use Rattle.vbm_intent.specs.Changes.{log_name};
 ghost use Rattle.vbm_intent.specs.Record.{IsPlan};
 ghost use Rattle.vbm_intent.specs.Log.{IsOpen, IsShutInAll, IsPending, IsBadLog, RedoesTo, IsLikeRedone, recorded_size};
-ghost use Rattle.vbm_intent.specs.Redone.{OnDone, OnBadLog, OnFailed};
+ghost use Rattle.vbm_intent.specs.Redone.{OnDone, OnBadLog, OnFailed, is_failed};
 
 use crate::Log;
 use crate::apply::apply;
@@ -36,6 +36,7 @@ pub fn record_size<D: Disk>(disk: &mut D) -> Result<Option<u32>, Failed>
     ensures bound { IfOk result (λ size. IfSome size (λ n. n ≤ 2 ^ 25)) }
     ensures reads { OnlyReads D.tells (D.state disk.old) (D.state disk.new) }
     ensures cause { OnErr result (Rose (D.state disk.old).faults (D.state disk.new).faults) }
+    ensures no_fault { OnOk result ((D.state disk.new).faults ≡ (D.state disk.old).faults) }
 {
     let len = disk.length(NAME)?.unwrap_or(0);
     if len < 16 {
@@ -66,6 +67,7 @@ pub fn redo<D: Disk>(disk: &mut D, buf: &mut [u8]) -> Redone
         → Passes (D.state disk.old) (D.state disk.new) (IsLikeRedone (D.state disk.old).files) }
     ensures faults { (D.state disk.old).faults ≤ (D.state disk.new).faults }
     ensures cause { OnFailed result (Rose (D.state disk.old).faults (D.state disk.new).faults) }
+    ensures counts { IsCounted (is_failed result) (D.state disk.old).faults (D.state disk.new).faults }
 {
     match record_size(disk) {
         Err(Failed) => Redone::Failed,
@@ -91,6 +93,7 @@ fn redo_open<D: Disk>(disk: &mut D, buf: &mut [u8]) -> Redone
         → Passes (D.state disk.old) (D.state disk.new) (IsLikeRedone (D.state disk.old).files) }
     ensures faults { (D.state disk.old).faults ≤ (D.state disk.new).faults }
     ensures cause { OnFailed result (Rose (D.state disk.old).faults (D.state disk.new).faults) }
+    ensures counts { IsCounted (is_failed result) (D.state disk.old).faults (D.state disk.new).faults }
 {
     let Ok(got) = disk.read(NAME, 0, buf) else {
         return Redone::Failed;
@@ -119,6 +122,7 @@ fn finish<D: Disk>(disk: &mut D, changes: Changes) -> Result<Log, Failed>
         → Passes (D.state disk.old) (D.state disk.new) (IsLikeRedone (D.state disk.old).files) }
     ensures faults { (D.state disk.old).faults ≤ (D.state disk.new).faults }
     ensures cause { OnErr result (Rose (D.state disk.old).faults (D.state disk.new).faults) }
+    ensures no_fault { OnOk result ((D.state disk.new).faults ≡ (D.state disk.old).faults) }
 {
     disk.sync()?;
     apply(disk, changes)?;

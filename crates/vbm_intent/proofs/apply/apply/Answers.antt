@@ -1,8 +1,17 @@
-use Rattle.std.proofs.Common.{◌++◌, ◌∷◌, [], arith}
+use Rattle.std.proofs.Common.{◌++◌, ◌∷◌, [], ◌∙◌, refl, arith}
 use Rattle.vbm_ports.proofs.States.{Passes-trans}
 use Rattle.vbm_intent.specs.Pieces.{change_in}
-use Rattle.vbm_intent.proofs.Applying.{next_allowed, one_more_made, size_within, begins_within, apply_time, apply_goes_on}
+use Rattle.vbm_intent.proofs.Applying.{apply_begins, next_allowed, one_more_made, size_within, begins_within, apply_time, apply_goes_on}
 use Rattle.vbm_intent.proofs.apply.apply.Goals as goal
+
+pub loop-piece-init : goal.loop-piece-init
+loop-piece-init g c = record {
+  made = [];
+  rest = refl;
+  told = λ told. apply_begins c.args.changes (g.D.Disk.state c.args.disk.now) (c.requires.settled told);
+  faults = omega arith;
+  no_fault = refl;
+}
 
 pub apply_one-requires-clause-allowed : goal.apply_one-requires-clause-allowed
 apply_one-requires-clause-allowed g c = next_allowed _ _ _ _ _ c.loop-piece.invariant.rest c.in-Some.ensures.next c.requires.plan
@@ -30,6 +39,7 @@ loop-piece-preserved g c = record {
       (c.requires.fits told) (c.loop-piece.invariant.told told) ((g.met.D.Disk.coherent c.loop-piece.disk).read_is_image told)
       (g.D.Disk.state c.apply_one.new.disk) (c.apply_one.ensures.time told) (c.apply_one.ensures.images told) (c.in_ok-apply_one.ensures.ok told);
   faults = omega arith;
+  no_fault = c.in_ok-apply_one.ensures.no_fault ∙ c.loop-piece.invariant.no_fault;
 }
 
 pub returns-clause-time : goal.returns-clause-time

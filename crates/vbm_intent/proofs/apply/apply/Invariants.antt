@@ -9,6 +9,7 @@ invariant-loop-piece g l = record {
   rest : l.fn.changes ≡ made ++ l.left;
   told : g.D.Disk.tells → Applying l.fn.changes made (g.D.Disk.state l.fn.disk) (g.D.Disk.state l.disk);
   faults : (g.D.Disk.state l.fn.disk).faults ≤ (g.D.Disk.state l.disk).faults;
+  no_fault : (g.D.Disk.state l.disk).faults ≡ (g.D.Disk.state l.fn.disk).faults;
 }
 
 abbrev pub decreases-loop-piece : goal.decreases-loop-piece

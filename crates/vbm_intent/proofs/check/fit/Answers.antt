@@ -1,4 +1,4 @@
-use Rattle.std.proofs.Common.{◌≤◌, List, [], ◌∷◌, ◌++◌, length, ◌∙◌, sym, ap, subst, arith, append_assoc, length-append}
+use Rattle.std.proofs.Common.{◌≤◌, List, [], ◌∷◌, ◌++◌, length, ◌∙◌, refl, sym, ap, subst, arith, append_assoc, length-append}
 use Rattle.std.proofs.lemmas.Bool.{iff_false, false≢true}
 use Rattle.std.proofs.lemmas.List.Elements.{All-rest, All-same}
 use Rattle.vbm_ports.specs.Files.{bytes_of}
@@ -19,6 +19,7 @@ loop-piece-init g c = record {
   allowed = All-same IsAllowed _ _ c.again-left.ensures c.requires.plan.allowed;
   fits = λ told name. tt;
   reads = OnlyReads-refl g.D.Disk.tells (g.D.Disk.state c.args.disk.now);
+  no_fault = refl;
 }
 
 pub begins_within-requires-clause-kept : goal.begins_within-requires-clause-kept
@@ -58,4 +59,5 @@ loop-piece-preserved g c =
           (same_place i.done next c.next.new.self c.again.result c.loop-piece.made _ _ (c.again.ensures ∙ is_next) i.count (i.reads.files told))
           ((c.in_ok-begins_within.ensures.answer told).0 c.if-not-branch.false));
       reads = OnlyReads-trans g.D.Disk.tells _ _ _ i.reads c.begins_within.ensures.reads;
+      no_fault = c.in_ok-begins_within.ensures.no_fault ∙ i.no_fault;
     }

@@ -12,6 +12,7 @@ invariant-loop-piece g l = record {
   allowed : All IsAllowed l.left;
   fits : g.D.Disk.tells → Fits done (g.D.Disk.state l.fn.disk).files;
   reads : OnlyReads g.D.Disk.tells (g.D.Disk.state l.fn.disk) (g.D.Disk.state l.disk);
+  no_fault : (g.D.Disk.state l.disk).faults ≡ (g.D.Disk.state l.fn.disk).faults;
 }
 
 abbrev pub decreases-loop-piece : goal.decreases-loop-piece
