@@ -5,6 +5,11 @@ pub mod Commits
 mod FilePartly
 pub mod Fills
 mod Fitting
+mod Indexed
+mod Members
+mod Names
+mod Notes
+mod Ordered
 mod Places
 pub mod Pushes
 mod Records

@@ -2,7 +2,7 @@
 use Rattle.std.specs.Prelude.{◌≡◌, ℕ, ◌+◌, ◌-◌, ◌^◌, ◌≤◌, List, length, Some, All}
 use Rattle.vbm_intent.specs.declared.change.Change.{Change}
 use Rattle.vbm_intent.specs.declared.change.Change.TheVariants.{Write, Fill, Cut, Remove}
-use Rattle.vbm_intent.specs.Changes.{IsAllowed}
+use Rattle.vbm_intent.specs.Changes.{name_of, Touches, IsAllowed}
 use Rattle.vbm_intent.specs.Record.{body_length, count_of, changes_in}
 
 -- the first byte that a change touches
@@ -18,6 +18,10 @@ touched_to (Write name at bytes) = at + length bytes
 touched_to (Fill name at len byte) = at + len
 touched_to (Cut name len) = 2 ^ 64 - 1
 touched_to (Remove name) = 2 ^ 64 - 1
+
+-- the changes are of different files, or touch no byte in common
+abbrev pub AreApart : Change → Change → Type 0
+AreApart c d = name_of d ≡ name_of c → (i : ℕ) → Touches c i → Touches d i → ⊥
 
 -- a record of these changes, which are allowed but may touch the same bytes
 pub record IsRecordOfAllowed (text : List ℕ) (cs : List Change) : Type 0 where

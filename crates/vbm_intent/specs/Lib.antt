@@ -3,6 +3,7 @@ pub mod Record
 pub mod Pieces
 pub mod Plan
 pub mod Check
+pub mod Index
 pub mod Log
 pub mod Partly
 pub mod Redone

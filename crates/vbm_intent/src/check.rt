@@ -5,14 +5,16 @@ ghost use Rattle.vbm_ports.specs.Files.{bytes_of};
 ghost use Rattle.vbm_ports.specs.Counts.{Rose};
 ghost use Rattle.vbm_ports.specs.Disk.{OnlyReads};
 ghost use Rattle.vbm_intent.specs.declared.change.Change.{Change};
-ghost use Rattle.vbm_intent.specs.Changes.{name_of, effect, after, of_file, changed, start_of, Touches, IsWithinLimits, IsRecordable, IsAllowed, ApartFrom, IsApart, Fits};
+ghost use Rattle.vbm_intent.specs.Changes.{name_of, after, of_file, changed, start_of, IsWithinLimits, IsRecordable, IsAllowed, ApartFrom, IsApart, Fits};
 ghost use Rattle.vbm_intent.specs.Record.{changes_of, IsPlan, IsRecord};
 ghost use Rattle.vbm_intent.specs.Pieces.{change_in};
 ghost use Rattle.vbm_intent.specs.Partly.{IsKept};
-ghost use Rattle.vbm_intent.specs.Check.{touched_from, touched_to, IsRecordOfAllowed};
+ghost use Rattle.vbm_intent.specs.Check.{IsRecordOfAllowed};
 
+use crate::index::{apart_by_index, fit_by_index};
 use crate::log::NAME;
 use crate::record::{Changes, LONGEST_BODY, Piece, first_piece, u32_at};
+use crate::span::{are_apart, length_with, start};
 use vbm_ports::{Disk, Failed, names_store_file};
 
 /// No write begins further on, and no cut leaves more bytes.
@@ -84,64 +86,6 @@ fn recorded(text: &[u8]) -> Option<Changes<'_>>
     Some(Changes::of(text))
 }
 
-/// The bytes that a change touches, from the first to before `to`. What is cut off or removed has no end.
-#[derive(Clone, Copy)]
-struct Span {
-    from: u64,
-    to: u64,
-}
-
-impl Span {
-    fn of(piece: &Piece) -> Span
-        requires allowed { IsAllowed (change_in piece.now) }
-        requires short { IsRecordable (change_in piece.now) }
-        ensures from { result.from ≡ touched_from (change_in piece.now) }
-        ensures to { result.to ≡ touched_to (change_in piece.now) }
-    {
-        match *piece {
-            Piece::Write { name: _, at, bytes } => Span {
-                from: at,
-                to: at + bytes.len() as u64,
-            },
-            Piece::Fill {
-                name: _,
-                at,
-                len,
-                byte: _,
-            } => Span {
-                from: at,
-                to: at + len,
-            },
-            Piece::Cut { name: _, len } => Span {
-                from: len,
-                to: u64::MAX,
-            },
-            Piece::Remove { name: _ } => Span {
-                from: 0,
-                to: u64::MAX,
-            },
-        }
-    }
-
-    fn is_apart_from(self, other: Span) -> bool
-        ensures { IsTrue result ↔ (self.to ≤ other.from) ⊎ (other.to ≤ self.from) }
-    {
-        self.to <= other.from || other.to <= self.from
-    }
-}
-
-/// Whether two changes are of different files, or touch no byte in common.
-fn are_apart(first: &Piece, second: &Piece) -> bool
-    requires first_allowed { IsAllowed (change_in first.now) }
-    requires first_short { IsRecordable (change_in first.now) }
-    requires second_allowed { IsAllowed (change_in second.now) }
-    requires second_short { IsRecordable (change_in second.now) }
-    ensures { IsTrue result ↔ (name_of (change_in second.now) ≡ name_of (change_in first.now)
-        → (i : ℕ) → Touches (change_in first.now) i → Touches (change_in second.now) i → ⊥) }
-{
-    Span::of(first).is_apart_from(Span::of(second)) || second.name() != first.name()
-}
-
 /// Whether a change is apart from all of the later ones.
 fn is_apart_from(piece: &Piece, later: Changes) -> bool
     requires allowed { IsAllowed (change_in piece.now) }
@@ -172,37 +116,19 @@ fn all_apart(changes: Changes) -> bool
     true
 }
 
-/// The changes of a record.
-fn planned(text: &[u8]) -> Option<Changes<'_>>
+/// The changes of a record. Where there is room for an index of them, it takes about as long as to sort them.
+fn planned<'a>(text: &'a [u8], room: &mut [u8]) -> Option<Changes<'a>>
     ensures { MatchOption result ((cs : List Change) → IsRecord text.now cs → ⊥) (λ cs. IsRecord text.now cs) }
 {
     let changes = recorded(text)?;
-    if !all_apart(changes.again()) {
+    let apart = match apart_by_index(&changes, room) {
+        Some(apart) => apart,
+        None => all_apart(changes.again()),
+    };
+    if !apart {
         return None;
     }
     Some(changes)
-}
-
-/// The length that a change leaves a file of this length.
-fn length_with(piece: &Piece, len: u64) -> u64
-    requires allowed { IsAllowed (change_in piece.now) }
-    requires short { IsRecordable (change_in piece.now) }
-    requires bound { len ≤ 2 ^ 60 }
-    ensures length { (file : Option (List ℕ)) → length (bytes_of file) ≡ len
-        → length (bytes_of (effect (change_in piece.now) file)) ≡ result }
-    ensures bound { result ≤ 2 ^ 60 }
-{
-    match *piece {
-        Piece::Write { name: _, at, bytes } => len.max(at + bytes.len() as u64),
-        Piece::Fill {
-            name: _,
-            at,
-            len: n,
-            byte: _,
-        } => len.max(at + n),
-        Piece::Cut { name: _, len: n } => len.min(n),
-        Piece::Remove { name: _ } => 0,
-    }
 }
 
 /// The length that the first of some changes leave a file of this name and length.
@@ -266,27 +192,6 @@ fn begins_within<D: Disk>(
     Ok(at <= length_after(piece.name(), changes, made, len))
 }
 
-/// The place from which a change writes.
-fn start(piece: &Piece) -> u64
-    ensures { result ≡ start_of (change_in piece.now) }
-{
-    match *piece {
-        Piece::Write {
-            name: _,
-            at,
-            bytes: _,
-        } => at,
-        Piece::Fill {
-            name: _,
-            at,
-            len: _,
-            byte: _,
-        } => at,
-        Piece::Cut { name: _, len: _ } => 0,
-        Piece::Remove { name: _ } => 0,
-    }
-}
-
 /// Whether the changes fit the files.
 fn fit<D: Disk>(disk: &mut D, changes: &Changes) -> Result<bool, Failed>
     requires plan { IsPlan changes.now }
@@ -307,10 +212,27 @@ fn fit<D: Disk>(disk: &mut D, changes: &Changes) -> Result<bool, Failed>
     Ok(true)
 }
 
-/// The changes of a record that fit the files, or none where there is no such record. It takes no memory.
+/// Whether the changes fit the files. Where there is room for an index of them, it takes about as long as to sort them.
+fn all_fit<D: Disk>(disk: &mut D, changes: &Changes, room: &mut [u8]) -> Result<bool, Failed>
+    requires plan { IsPlan changes.now }
+    requires few { length changes.now < 2 ^ 32 }
+    ensures answer { D.tells → IfOk result (λ fit. IsTrue fit ↔ Fits changes.now (D.state disk.old).files) }
+    ensures reads { OnlyReads D.tells (D.state disk.old) (D.state disk.new) }
+    ensures cause { OnErr result (Rose (D.state disk.old).faults (D.state disk.new).faults) }
+    ensures no_fault { OnOk result ((D.state disk.new).faults ≡ (D.state disk.old).faults) }
+{
+    match fit_by_index(disk, changes, room)? {
+        Some(fits) => Ok(fits),
+        None => fit(disk, changes),
+    }
+}
+
+/// The changes of a record that fit the files, or none where there is no such record. It takes no memory; `room`
+/// is for an index of the changes.
 pub(crate) fn pending<'a, D: Disk>(
     disk: &mut D,
     text: &'a [u8],
+    room: &mut [u8],
 ) -> Result<Option<Changes<'a>>, Failed>
     ensures answer { D.tells → IfOk result (λ found. MatchOption found
         ((cs : List Change) → IsRecord text.now cs → Fits cs (D.state disk.old).files → ⊥)
@@ -320,10 +242,10 @@ pub(crate) fn pending<'a, D: Disk>(
     ensures cause { OnErr result (Rose (D.state disk.old).faults (D.state disk.new).faults) }
     ensures no_fault { OnOk result ((D.state disk.new).faults ≡ (D.state disk.old).faults) }
 {
-    let Some(changes) = planned(text) else {
+    let Some(changes) = planned(text, room) else {
         return Ok(None);
     };
-    if !fit(disk, &changes)? {
+    if !all_fit(disk, &changes, room)? {
         return Ok(None);
     }
     Ok(Some(changes))

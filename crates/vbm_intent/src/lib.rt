@@ -4,12 +4,15 @@
 mod apply;
 mod change;
 mod check;
+mod index;
 mod log;
 mod plan;
 mod record;
 mod recovery;
+mod span;
 
 pub use change::Change;
+pub use index::INDEX_ROOM;
 pub use log::Log;
 pub use plan::Plan;
 pub use recovery::{Redone, record_size, redo};

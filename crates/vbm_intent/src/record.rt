@@ -89,6 +89,13 @@ impl<'a> Changes<'a> {
         }
     }
 
+    /// Their count, and the bytes that they fill.
+    pub(crate) fn parts(&self) -> (u32, &'a [u8])
+        ensures { changes_of result.0 result.1.now ≡ Some self.now }
+    {
+        (self.count, self.body)
+    }
+
     /// The same changes, to be read once more.
     pub(crate) fn again(&self) -> Changes<'a>
         ensures { result ≡ self.now }

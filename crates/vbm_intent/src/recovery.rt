@@ -52,7 +52,8 @@ pub fn record_size<D: Disk>(disk: &mut D) -> Result<Option<u32>, Failed>
 
 /// Makes the changes of the record that waits behind an open gate, and shuts the log. It takes no memory.
 ///
-/// `buf` must hold 16 bytes more than `record_size` tells. A bad record is found before the first change is made, and
+/// `buf` must hold 16 bytes more than `record_size` tells. With another `INDEX_ROOM` bytes a record is judged in the time
+/// that it takes to sort its changes; with less, in the square of their count. A bad record is found before the first change is made, and
 /// bytes behind its body are not read. Where the gate is not open, this does what `Log::start` does.
 pub fn redo<D: Disk>(disk: &mut D, buf: &mut [u8]) -> Redone
     requires room { D.tells → IsOpen ((D.state disk.old).files log_name)
@@ -75,14 +76,15 @@ pub fn redo<D: Disk>(disk: &mut D, buf: &mut [u8]) -> Redone
             Ok(log) => Redone::Done(log),
             Err(Failed) => Redone::Failed,
         },
-        Ok(Some(_)) => redo_open(disk, buf),
+        Ok(Some(size)) => redo_open(disk, size, buf),
     }
 }
 
-/// Makes the changes behind an open gate.
-fn redo_open<D: Disk>(disk: &mut D, buf: &mut [u8]) -> Redone
+/// Makes the changes behind an open gate. The record is read to the front of `buf`, and the rest is room for an index.
+fn redo_open<D: Disk>(disk: &mut D, size: u32, buf: &mut [u8]) -> Redone
     requires opens { D.tells → IsOpen ((D.state disk.old).files log_name) }
-    requires room { D.tells → 16 + recorded_size ((D.state disk.old).files log_name) ≤ length buf.old }
+    requires size { D.tells → size ≡ recorded_size ((D.state disk.old).files log_name) }
+    requires room { D.tells → 16 + size ≤ length buf.old }
     ensures done { D.tells → OnDone result (RedoesTo (D.state disk.new).files (D.state disk.old).files) }
     ensures settled { D.tells → OnDone result (Only (D.state disk.new).files (D.state disk.new).may_leave) }
     ensures shut { D.tells → OnDone result (IsShutInAll (D.state disk.new).may_leave) }
@@ -95,13 +97,15 @@ fn redo_open<D: Disk>(disk: &mut D, buf: &mut [u8]) -> Redone
     ensures cause { OnFailed result (Rose (D.state disk.old).faults (D.state disk.new).faults) }
     ensures counts { IsCounted (is_failed result) (D.state disk.old).faults (D.state disk.new).faults }
 {
-    let Ok(got) = disk.read(NAME, 0, buf) else {
+    let end = buf.len().min(16 + size as usize);
+    let (log, room) = buf.split_at_mut(end);
+    let Ok(got) = disk.read(NAME, 0, log) else {
         return Redone::Failed;
     };
     if got < 16 {
         return Redone::BadLog;
     }
-    match pending(disk, &buf[8..got]) {
+    match pending(disk, &log[8..got], room) {
         Err(Failed) => Redone::Failed,
         Ok(None) => Redone::BadLog,
         Ok(Some(changes)) => match finish(disk, changes) {

@@ -1,4 +1,4 @@
-use Rattle.std.proofs.Common.{subst}
+use Rattle.std.proofs.Common.{subst, arith, length-take}
 use Rattle.vbm_ports.proofs.States.{OnlyReads-trans}
 use Rattle.vbm_intent.specs.Log.{RedoesTo}
 use Rattle.vbm_intent.proofs.Redos.{reads_time, after_reads, pending_after, log_pending, log_bad}
@@ -8,14 +8,14 @@ pub finish-requires-clause-pending : goal.finish-requires-clause-pending
 finish-requires-clause-pending g c = λ told.
     let found = rw c.in-Ok-Some.field-0-is at c.in-Ok-Some.ensures.answer told in
     pending_after _ told _ _ c.pending.ensures.reads _
-    (log_pending _ told _ _ c.read.ensures.reads _ _ _ (c.in-Ok.ensures.answer told) (c.requires.opens told) (c.requires.room told) _ found.0 found.1)
+    (log_pending _ told _ _ c.read.ensures.reads _ _ _ (c.in-Ok.ensures.answer told) (c.requires.opens told) (omega (arith, c.requires.size told, c.requires.room told, c.min-end.ensures, length-take c.min-end.result c.args.buf.now)) _ found.0 found.1)
 
 pub returns-in-Err-clause-any_moment : goal.returns-in-Err-clause-any_moment
 returns-in-Err-clause-any_moment g c = λ told only. reads_time _ told _ _ (OnlyReads-trans _ _ _ _ c.read.ensures.reads c.pending.ensures.reads) only
 
 pub returns-in-Ok-None-clause-bad_log : goal.returns-in-Ok-None-clause-bad_log
 returns-in-Ok-None-clause-bad_log g c = λ told.
-    log_bad _ told _ _ c.read.ensures.reads _ _ _ (c.in-Ok.ensures.answer told) (c.requires.opens told) (c.requires.room told)
+    log_bad _ told _ _ c.read.ensures.reads _ _ _ (c.in-Ok.ensures.answer told) (c.requires.opens told) (omega (arith, c.requires.size told, c.requires.room told, c.min-end.ensures, length-take c.min-end.result c.args.buf.now))
     (rw c.in-Ok-None.field-0-is at c.in-Ok-None.ensures.answer told)
 
 pub returns-in-Ok-None-clause-any_moment : goal.returns-in-Ok-None-clause-any_moment

@@ -2,7 +2,7 @@ use Rattle.std.proofs.Common.{◌∙◌, not}
 use Rattle.std.specs.Str.{bytes_eq}
 use Rattle.vbm_intent.specs.Pieces.{change_in}
 use Rattle.vbm_intent.proofs.Apart.{apart_by_name}
-use Rattle.vbm_intent.proofs.check.are_apart.Goals as goal
+use Rattle.vbm_intent.proofs.span.are_apart.Goals as goal
 
 pub returns-else-is_apart_from : goal.returns-else-is_apart_from
 returns-else-is_apart_from c =
