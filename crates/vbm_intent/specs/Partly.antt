@@ -1,7 +1,8 @@
 -- Files with some of the changes made, in whole or in part.
-use Rattle.std.specs.Prelude.{◌≡◌, ◌⊎◌, ℕ, ◌+◌, ◌<◌, ◌≤◌, max, List, [], ◌∷◌, length, slice_index, Option, Some, None}
-use Rattle.vbm_ports.specs.Files.{Files, bytes_of}
-use Rattle.vbm_ports.specs.Crash.{WriteLeaves, CutLeaves, RemoveLeaves}
+use Rattle.std.specs.Prelude.{◌≡◌, ◌⊎◌, ℕ, ◌+◌, ◌<◌, ◌≤◌, max, List, [], ◌∷◌, length, replicate, slice_index, Option, Some, None}
+use Rattle.vbm_ports.specs.Files.{Files, bytes_of, IsWritten}
+use Rattle.vbm_ports.specs.Crash.{WriteLeaves, CutLeaves, RemoveLeaves, Through, Follows}
+use Rattle.vbm_ports.specs.Disk.{DiskState, Passes}
 use Rattle.vbm_intent.specs.declared.change.Change.{Change}
 use Rattle.vbm_intent.specs.declared.change.Change.TheVariants.{Write, Fill, Cut, Remove}
 use Rattle.vbm_intent.specs.Changes.{log_name, of_file, start_of, size_of, Writes, Takes}
@@ -44,6 +45,18 @@ pub record IsFilePartly (cs : List Change) (file now : Option (List ℕ)) : Type
 -- all files
 abbrev pub IsPartly : List Change → Files → Files → Type 0
 IsPartly cs files now = (name : List ℕ) → IsFilePartly (of_file name cs) (files name) (now name)
+
+-- n bytes at a place of a file are the same byte
+abbrev pub IsFilled : List ℕ → ℕ → ℕ → ℕ → DiskState → DiskState → Type 0
+IsFilled name at n byte old new = IsWritten name at (replicate n byte) old.files new.files
+
+-- an image is what a crash leaves of an earlier one while n bytes at a place are written
+abbrev pub MayTear : List ℕ → ℕ → ℕ → DiskState → DiskState → Type 0
+MayTear name at n old new = Follows (WriteLeaves name at n old.files) old.may_leave new.may_leave
+
+-- and a crash at any moment leaves nothing else
+abbrev pub PassesTorn : List ℕ → ℕ → ℕ → DiskState → DiskState → Type 0
+PassesTorn name at n old new = Passes old new (Through (WriteLeaves name at n old.files) old.may_leave)
 
 -- what a crash may leave of an image while one change is made
 abbrev pub ChangeLeaves : Change → Files → Files → Files → Type 0

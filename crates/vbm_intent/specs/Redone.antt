@@ -1,7 +1,14 @@
 -- How redo ended.
 use Rattle.std.specs.Prelude.{Bool, true, false}
+use Rattle.vbm_ports.specs.Crash.{Only}
+use Rattle.vbm_ports.specs.Disk.{DiskState, Passes}
+use Rattle.vbm_intent.specs.Log.{IsLikeRedone}
 use Rattle.vbm_intent.specs.declared.recovery.Redone.{Redone}
 use Rattle.vbm_intent.specs.declared.recovery.Redone.TheVariants.{Done, Failed, BadLog}
+
+-- Over a settled disk, a crash at any moment leaves what redo makes the same of.
+abbrev pub RedoesAtAnyMoment : DiskState → DiskState → Type 0
+RedoesAtAnyMoment old new = Only old.files old.may_leave → Passes old new (IsLikeRedone old.files)
 
 -- this holds where the log is shut
 abbrev pub OnDone : Redone → Type 0 → Type 0

@@ -1,15 +1,15 @@
 //! Changes made one after the other.
 
-ghost use Rattle.std.specs.Prelude.{◌≡◌, ℕ, ◌+◌, ◌^◌, ◌<◌, ◌≤◌, List, length, replicate, Some, OnOk, OnErr, All};
-ghost use Rattle.vbm_ports.specs.Files.{Files, bytes_of, put, Sets, IsWritten};
+ghost use Rattle.std.specs.Prelude.{◌≡◌, ℕ, ◌+◌, ◌^◌, ◌<◌, ◌≤◌, List, length, Some, OnOk, OnErr, All};
+ghost use Rattle.vbm_ports.specs.Files.{Files, bytes_of, put, Sets};
 ghost use Rattle.vbm_ports.specs.Names.{IsStoreName};
 ghost use Rattle.vbm_ports.specs.Counts.{Rose};
-ghost use Rattle.vbm_ports.specs.Crash.{WriteLeaves, Through, Follows, Only};
+ghost use Rattle.vbm_ports.specs.Crash.{Through, Follows, Only};
 ghost use Rattle.vbm_ports.specs.Disk.{Passes};
 ghost use Rattle.vbm_intent.specs.Changes.{name_of, start_of, size_of, effect, changed, IsAllowed, Fits};
 ghost use Rattle.vbm_intent.specs.Record.{IsPlan};
 ghost use Rattle.vbm_intent.specs.Pieces.{change_in};
-ghost use Rattle.vbm_intent.specs.Partly.{IsPartly, ChangeLeaves};
+ghost use Rattle.vbm_intent.specs.Partly.{IsFilled, MayTear, PassesTorn, IsPartly, ChangeLeaves};
 
 use crate::record::{Changes, Piece};
 use vbm_ports::{Disk, Failed};
@@ -23,12 +23,9 @@ fn fill<D: Disk>(disk: &mut D, name: &[u8], at: u64, len: u64, byte: u8) -> Resu
     requires some { 0 < len }
     requires room { at + len ≤ 2 ^ 60 }
     requires fits { D.tells → at ≤ length (bytes_of ((D.state disk.old).files name.now)) }
-    ensures ok { D.tells
-        → OnOk result (IsWritten name.now at (replicate len byte) (D.state disk.old).files (D.state disk.new).files) }
-    ensures images { D.tells
-        → Follows (WriteLeaves name.now at len (D.state disk.old).files) (D.state disk.old).may_leave (D.state disk.new).may_leave }
-    ensures time { D.tells
-        → Passes (D.state disk.old) (D.state disk.new) (Through (WriteLeaves name.now at len (D.state disk.old).files) (D.state disk.old).may_leave) }
+    ensures ok { D.tells → OnOk result (IsFilled name.now at len byte (D.state disk.old) (D.state disk.new)) }
+    ensures images { D.tells → MayTear name.now at len (D.state disk.old) (D.state disk.new) }
+    ensures time { D.tells → PassesTorn name.now at len (D.state disk.old) (D.state disk.new) }
     ensures faults { (D.state disk.old).faults ≤ (D.state disk.new).faults }
     ensures cause { OnErr result (Rose (D.state disk.old).faults (D.state disk.new).faults) }
     ensures no_fault { OnOk result ((D.state disk.new).faults ≡ (D.state disk.old).faults) }
@@ -45,12 +42,9 @@ fn fill_zeros<D: Disk>(disk: &mut D, name: &[u8], at: u64, len: u64) -> Result<(
     requires some { 0 < len }
     requires room { at + len ≤ 2 ^ 60 }
     requires fits { D.tells → at ≤ length (bytes_of ((D.state disk.old).files name.now)) }
-    ensures ok { D.tells
-        → OnOk result (IsWritten name.now at (replicate len 0) (D.state disk.old).files (D.state disk.new).files) }
-    ensures images { D.tells
-        → Follows (WriteLeaves name.now at len (D.state disk.old).files) (D.state disk.old).may_leave (D.state disk.new).may_leave }
-    ensures time { D.tells
-        → Passes (D.state disk.old) (D.state disk.new) (Through (WriteLeaves name.now at len (D.state disk.old).files) (D.state disk.old).may_leave) }
+    ensures ok { D.tells → OnOk result (IsFilled name.now at len 0 (D.state disk.old) (D.state disk.new)) }
+    ensures images { D.tells → MayTear name.now at len (D.state disk.old) (D.state disk.new) }
+    ensures time { D.tells → PassesTorn name.now at len (D.state disk.old) (D.state disk.new) }
     ensures faults { (D.state disk.old).faults ≤ (D.state disk.new).faults }
     ensures cause { OnErr result (Rose (D.state disk.old).faults (D.state disk.new).faults) }
     ensures no_fault { OnOk result ((D.state disk.new).faults ≡ (D.state disk.old).faults) }
@@ -72,12 +66,9 @@ fn fill_to_end<D: Disk>(
     requires room { at + len ≤ 2 ^ 60 }
     requires fits { D.tells → at ≤ length (bytes_of ((D.state disk.old).files name.now)) }
     requires end { D.tells → end ≡ length (bytes_of ((D.state disk.old).files name.now)) }
-    ensures ok { D.tells
-        → OnOk result (IsWritten name.now at (replicate len 0) (D.state disk.old).files (D.state disk.new).files) }
-    ensures images { D.tells
-        → Follows (WriteLeaves name.now at len (D.state disk.old).files) (D.state disk.old).may_leave (D.state disk.new).may_leave }
-    ensures time { D.tells
-        → Passes (D.state disk.old) (D.state disk.new) (Through (WriteLeaves name.now at len (D.state disk.old).files) (D.state disk.old).may_leave) }
+    ensures ok { D.tells → OnOk result (IsFilled name.now at len 0 (D.state disk.old) (D.state disk.new)) }
+    ensures images { D.tells → MayTear name.now at len (D.state disk.old) (D.state disk.new) }
+    ensures time { D.tells → PassesTorn name.now at len (D.state disk.old) (D.state disk.new) }
     ensures faults { (D.state disk.old).faults ≤ (D.state disk.new).faults }
     ensures cause { OnErr result (Rose (D.state disk.old).faults (D.state disk.new).faults) }
     ensures no_fault { OnOk result ((D.state disk.new).faults ≡ (D.state disk.old).faults) }
@@ -98,10 +89,8 @@ fn write_last_zero<D: Disk>(disk: &mut D, name: &[u8], end: u64, n: u64) -> Resu
     requires some { 0 < n }
     requires room { end + n ≤ 2 ^ 60 }
     requires end { D.tells → length (bytes_of ((D.state disk.old).files name.now)) ≡ end }
-    ensures ok { D.tells
-        → OnOk result (IsWritten name.now end (replicate n 0) (D.state disk.old).files (D.state disk.new).files) }
-    ensures images { D.tells
-        → Follows (WriteLeaves name.now end n (D.state disk.old).files) (D.state disk.old).may_leave (D.state disk.new).may_leave }
+    ensures ok { D.tells → OnOk result (IsFilled name.now end n 0 (D.state disk.old) (D.state disk.new)) }
+    ensures images { D.tells → MayTear name.now end n (D.state disk.old) (D.state disk.new) }
     ensures time { Passes (D.state disk.old) (D.state disk.new) (D.state disk.new).may_leave }
     ensures faults { (D.state disk.old).faults ≤ (D.state disk.new).faults }
     ensures cause { OnErr result (Rose (D.state disk.old).faults (D.state disk.new).faults) }
@@ -122,12 +111,9 @@ fn fill_pieces<D: Disk>(
     requires some { 0 < len }
     requires room { at + len ≤ 2 ^ 60 }
     requires fits { D.tells → at ≤ length (bytes_of ((D.state disk.old).files name.now)) }
-    ensures ok { D.tells
-        → OnOk result (IsWritten name.now at (replicate len byte) (D.state disk.old).files (D.state disk.new).files) }
-    ensures images { D.tells
-        → Follows (WriteLeaves name.now at len (D.state disk.old).files) (D.state disk.old).may_leave (D.state disk.new).may_leave }
-    ensures time { D.tells
-        → Passes (D.state disk.old) (D.state disk.new) (Through (WriteLeaves name.now at len (D.state disk.old).files) (D.state disk.old).may_leave) }
+    ensures ok { D.tells → OnOk result (IsFilled name.now at len byte (D.state disk.old) (D.state disk.new)) }
+    ensures images { D.tells → MayTear name.now at len (D.state disk.old) (D.state disk.new) }
+    ensures time { D.tells → PassesTorn name.now at len (D.state disk.old) (D.state disk.new) }
     ensures faults { (D.state disk.old).faults ≤ (D.state disk.new).faults }
     ensures cause { OnErr result (Rose (D.state disk.old).faults (D.state disk.new).faults) }
     ensures no_fault { OnOk result ((D.state disk.new).faults ≡ (D.state disk.old).faults) }
@@ -153,10 +139,8 @@ fn write_copies<D: Disk>(
     requires some { 0 < n }
     requires short { n ≤ 65536 }
     requires room { at + n ≤ 2 ^ 60 }
-    ensures ok { D.tells
-        → OnOk result (IsWritten name.now at (replicate n byte) (D.state disk.old).files (D.state disk.new).files) }
-    ensures images { D.tells
-        → Follows (WriteLeaves name.now at n (D.state disk.old).files) (D.state disk.old).may_leave (D.state disk.new).may_leave }
+    ensures ok { D.tells → OnOk result (IsFilled name.now at n byte (D.state disk.old) (D.state disk.new)) }
+    ensures images { D.tells → MayTear name.now at n (D.state disk.old) (D.state disk.new) }
     ensures time { Passes (D.state disk.old) (D.state disk.new) (D.state disk.new).may_leave }
     ensures faults { (D.state disk.old).faults ≤ (D.state disk.new).faults }
     ensures cause { OnErr result (Rose (D.state disk.old).faults (D.state disk.new).faults) }

@@ -4,11 +4,11 @@ ghost use Rattle.std.specs.Prelude.{◌≡◌, ◌+◌, ◌^◌, ◌≤◌, ℕ,
 ghost use Rattle.vbm_ports.specs.Files.{Files, bytes_of};
 ghost use Rattle.vbm_ports.specs.Counts.{Rose, IsCounted};
 ghost use Rattle.vbm_ports.specs.Crash.{Only};
-ghost use Rattle.vbm_ports.specs.Disk.{Passes, OnlyReads};
+ghost use Rattle.vbm_ports.specs.Disk.{OnlyReads};
 ghost use Rattle.vbm_intent.specs.Changes.{log_name};
 ghost use Rattle.vbm_intent.specs.Record.{IsPlan};
-ghost use Rattle.vbm_intent.specs.Log.{IsOpen, IsShutInAll, IsPending, IsBadLog, RedoesTo, IsLikeRedone, recorded_size};
-ghost use Rattle.vbm_intent.specs.Redone.{OnDone, OnBadLog, OnFailed, is_failed};
+ghost use Rattle.vbm_intent.specs.Log.{IsOpen, IsShutInAll, IsPending, IsBadLog, RedoesTo, recorded_size};
+ghost use Rattle.vbm_intent.specs.Redone.{OnDone, OnBadLog, OnFailed, is_failed, RedoesAtAnyMoment};
 
 use crate::Log;
 use crate::apply::apply;
@@ -64,8 +64,7 @@ pub fn redo<D: Disk>(disk: &mut D, buf: &mut [u8]) -> Redone
     ensures bad_log { D.tells → OnBadLog result (IsBadLog (D.state disk.old).files) }
     ensures untouched { D.tells → OnBadLog result ((D.state disk.new).files ≡ (D.state disk.old).files) }
     ensures images { OnBadLog result ((image : Files) → (D.state disk.new).may_leave image → (D.state disk.old).may_leave image) }
-    ensures any_moment { D.tells → Only (D.state disk.old).files (D.state disk.old).may_leave
-        → Passes (D.state disk.old) (D.state disk.new) (IsLikeRedone (D.state disk.old).files) }
+    ensures any_moment { D.tells → RedoesAtAnyMoment (D.state disk.old) (D.state disk.new) }
     ensures faults { (D.state disk.old).faults ≤ (D.state disk.new).faults }
     ensures cause { OnFailed result (Rose (D.state disk.old).faults (D.state disk.new).faults) }
     ensures counts { IsCounted (is_failed result) (D.state disk.old).faults (D.state disk.new).faults }
@@ -91,8 +90,7 @@ fn redo_open<D: Disk>(disk: &mut D, size: u32, buf: &mut [u8]) -> Redone
     ensures bad_log { D.tells → OnBadLog result (IsBadLog (D.state disk.old).files) }
     ensures untouched { D.tells → OnBadLog result ((D.state disk.new).files ≡ (D.state disk.old).files) }
     ensures images { OnBadLog result ((image : Files) → (D.state disk.new).may_leave image → (D.state disk.old).may_leave image) }
-    ensures any_moment { D.tells → Only (D.state disk.old).files (D.state disk.old).may_leave
-        → Passes (D.state disk.old) (D.state disk.new) (IsLikeRedone (D.state disk.old).files) }
+    ensures any_moment { D.tells → RedoesAtAnyMoment (D.state disk.old) (D.state disk.new) }
     ensures faults { (D.state disk.old).faults ≤ (D.state disk.new).faults }
     ensures cause { OnFailed result (Rose (D.state disk.old).faults (D.state disk.new).faults) }
     ensures counts { IsCounted (is_failed result) (D.state disk.old).faults (D.state disk.new).faults }
@@ -122,8 +120,7 @@ fn finish<D: Disk>(disk: &mut D, changes: Changes) -> Result<Log, Failed>
     ensures done { D.tells → OnOk result (RedoesTo (D.state disk.new).files (D.state disk.old).files) }
     ensures settled { D.tells → OnOk result (Only (D.state disk.new).files (D.state disk.new).may_leave) }
     ensures shut { D.tells → OnOk result (IsShutInAll (D.state disk.new).may_leave) }
-    ensures any_moment { D.tells → Only (D.state disk.old).files (D.state disk.old).may_leave
-        → Passes (D.state disk.old) (D.state disk.new) (IsLikeRedone (D.state disk.old).files) }
+    ensures any_moment { D.tells → RedoesAtAnyMoment (D.state disk.old) (D.state disk.new) }
     ensures faults { (D.state disk.old).faults ≤ (D.state disk.new).faults }
     ensures cause { OnErr result (Rose (D.state disk.old).faults (D.state disk.new).faults) }
     ensures no_fault { OnOk result ((D.state disk.new).faults ≡ (D.state disk.old).faults) }

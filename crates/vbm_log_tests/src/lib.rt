@@ -6,6 +6,8 @@ mod commits;
 #[cfg(test)]
 mod limits;
 #[cfg(test)]
+mod many;
+#[cfg(test)]
 mod records;
 #[cfg(test)]
 mod redo;

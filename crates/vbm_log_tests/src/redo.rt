@@ -9,7 +9,7 @@ use crate::records::{Part, body_of, log_of, log_of_changes};
 use std::alloc::Global;
 use std::process::Abort;
 use std::test::Fail;
-use vbm_intent::{Plan, Redone, record_size, redo};
+use vbm_intent::{INDEX_ROOM, Plan, Redone, record_size, redo};
 use vbm_memdisk::{MemDisk, Pick};
 
 const A: &[u8] = b"a.vdi";
@@ -47,15 +47,20 @@ fn end_of(redone: Redone) -> End {
     }
 }
 
-/// Redoes the log of a disk, with the room that its record needs.
+/// Redoes the log of a disk, with the room that its record and an index of its changes need.
 pub(crate) fn redo_log(alloc: Global, disk: &mut MemDisk) -> Result<End, Fail> {
+    redo_in(alloc, disk, INDEX_ROOM)
+}
+
+/// Redoes the log of a disk, with the room that its record needs, and so many bytes for an index of its changes.
+pub(crate) fn redo_in(alloc: Global, disk: &mut MemDisk, room: u32) -> Result<End, Fail> {
     let Ok(size) = record_size(disk) else {
         return Ok(End::Failed);
     };
     let Some(n) = size else {
         return Ok(end_of(redo(disk, &mut [])));
     };
-    let mut buf = vec![in alloc; 0u8; n as usize + 16]?;
+    let mut buf = vec![in alloc; 0u8; n as usize + room as usize + 16]?;
     Ok(end_of(redo(disk, &mut buf)))
 }
 
@@ -77,11 +82,12 @@ fn check_unchanged(
     rt: &impl Abort,
     alloc: Global,
     disk: &mut MemDisk,
+    room: u32,
     end: End,
     case: usize,
 ) -> Result<(), Fail> {
     let before = disk.images_of_last_sync(Pick::New)?;
-    assert_eq!(rt; redo_log(alloc, disk)?, end, "case {case}");
+    assert_eq!(rt; redo_in(alloc, disk, room)?, end, "case {case}");
     let image = disk.images_of_last_sync(Pick::Byte(7))?;
     for now in [&*disk, &image] {
         assert!(rt; same_besides_log(now, &before), "case {case}");
@@ -138,7 +144,7 @@ fn redoes_a_cut(rt: HostRuntime) -> Result<(), Fail> {
     let bytes = disk.file(A).unwrap_or(b"");
     assert!(rt; bytes.len() == 2_097_152 && bytes.iter().all(|byte| *byte == 1));
     assert!(rt; disk.file(LOG) == Some(CLOSED_CUT));
-    check_unchanged(&rt, alloc, &mut disk, End::Done, 0)
+    check_unchanged(&rt, alloc, &mut disk, INDEX_ROOM, End::Done, 0)
 }
 
 #[test]
@@ -151,7 +157,7 @@ fn leaves_a_cut(rt: HostRuntime) -> Result<(), Fail> {
         let mut disk = disk_of_ones(rt.alloc())?;
         put_log(&rt, &mut disk, log)?;
         assert_eq!(rt; record_size(&mut disk), Ok(size));
-        check_unchanged(&rt, rt.alloc(), &mut disk, end, i)?;
+        check_unchanged(&rt, rt.alloc(), &mut disk, INDEX_ROOM, end, i)?;
     }
     Ok(())
 }
@@ -219,10 +225,16 @@ fn log_of_two(alloc: Global, n: u32, count: u32) -> Result<Vec<u8>, Fail> {
     log_of(alloc, n, count, &body)
 }
 
-// Redoes a bad log over the files.
+/// Room for no index, for one of a change, and for one of all changes.
+const ROOMS: [u32; 3] = [0, 4, INDEX_ROOM];
+
+// Redoes a bad log over the files, with each room.
 fn check_bad(rt: &impl Abort, alloc: Global, log: &[u8], case: usize) -> Result<(), Fail> {
-    let mut disk = disk_of_log(rt, alloc, log)?;
-    check_unchanged(rt, alloc, &mut disk, End::BadLog, case)
+    for room in ROOMS {
+        let mut disk = disk_of_log(rt, alloc, log)?;
+        check_unchanged(rt, alloc, &mut disk, room, End::BadLog, case)?;
+    }
+    Ok(())
 }
 
 #[test]
@@ -288,7 +300,7 @@ static GOOD: [Good; 20] = [
     ),
 ];
 
-// Redoes a good log, after which this is the file, and all is settled.
+// Redoes a good log with each room, after which this is the file, and all is settled.
 fn check_good(
     rt: &impl Abort,
     alloc: Global,
@@ -296,11 +308,14 @@ fn check_good(
     (_, name, file): &Good,
     case: usize,
 ) -> Result<(), Fail> {
-    let mut disk = disk_of_log(rt, alloc, log)?;
-    assert_eq!(rt; redo_log(alloc, &mut disk)?, End::Done, "case {case}");
-    let image = disk.images_of_last_sync(Pick::Byte(7))?;
-    assert!(rt; image.file(name) == *file, "case {case}");
-    check_unchanged(rt, alloc, &mut disk, End::Done, case)
+    for room in ROOMS {
+        let mut disk = disk_of_log(rt, alloc, log)?;
+        assert_eq!(rt; redo_in(alloc, &mut disk, room)?, End::Done, "case {case}");
+        let image = disk.images_of_last_sync(Pick::Byte(7))?;
+        assert!(rt; image.file(name) == *file, "case {case}");
+        check_unchanged(rt, alloc, &mut disk, room, End::Done, case)?;
+    }
+    Ok(())
 }
 
 #[test]
