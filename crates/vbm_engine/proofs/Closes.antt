@@ -32,7 +32,9 @@ use Rattle.vbm_engine.specs.declared.engine.Decided.TheVariants as decided
 use Rattle.vbm_engine.specs.Closes.{removal}
 use Rattle.vbm_engine.specs.Plans.{library_changes}
 use Rattle.vbm_engine.specs.Serves.{serves, image_name, image_in, IsSoundEngine, Holds}
-use Rattle.vbm_engine.specs.Steps.{KeepsBytes, Turns, Decides}
+use Rattle.vbm_engine.specs.Kept.{KeepsBytes}
+use Rattle.vbm_engine.specs.Steps.{Turns, Decides}
+use Rattle.vbm_engine.proofs.Keeping.{kept_media}
 use Rattle.vbm_engine.proofs.Decisions.{medium_not_library, inner_not_library, kept_or}
 use Rattle.vbm_engine.proofs.Planned.{library_made, library_frame, library_fits}
 use Rattle.vbm_engine.proofs.Pushing.{medium_store}
@@ -151,8 +153,9 @@ module _ (e : Engine) (files : Files) (name : Name) (delete : Bool) (holds : Hol
       fits = library_fits (removal name delete) now_library files apart (removal_fits name delete named files);
       holds = now_holds;
       by = now_by;
-      kept = λ n is. subst (KeepsBytes (files n)) (sym (now_file n (medium_not_library n is))) (kept_or (files n) (delete && bytes_eq name n));
-      strays = λ n inner none. now_file n (inner_not_library n inner) ∙ none_or (files n) (delete && bytes_eq name n) none;
+      kept = kept_media e.library now_library files now lib
+          (λ n is. subst (KeepsBytes (files n)) (sym (now_file n (medium_not_library n is))) (kept_or (files n) (delete && bytes_eq name n)));
+      strays = λ n inner unlisted none. now_file n (inner_not_library n inner) ∙ none_or (files n) (delete && bytes_eq name n) none;
     }
 
   pub closes : IsTrue (has_name medium_entry_name name e.library.media) → (k : Library) (images : List Image) (changes : List Change)

@@ -40,7 +40,9 @@ use Rattle.vbm_engine.specs.declared.engine.Decided.TheVariants as decided
 use Rattle.vbm_engine.specs.Plans.{library_changes, image_changes}
 use Rattle.vbm_engine.specs.Creates.{first_check, CanCreate, new_entry, library_made as made_library, IsNewMedium, MakesMedium, Creates}
 use Rattle.vbm_engine.specs.Serves.{image_name, image_in, serves, IsSoundEngine, Holds}
-use Rattle.vbm_engine.specs.Steps.{KeepsBytes, Turns, Decides, DecidesSound}
+use Rattle.vbm_engine.specs.Kept.{KeepsBytes}
+use Rattle.vbm_engine.specs.Steps.{Turns, Decides, DecidesSound}
+use Rattle.vbm_engine.proofs.Keeping.{kept_media}
 use Rattle.vbm_engine.proofs.Decisions.{medium_not_library, inner_not_library}
 use Rattle.vbm_engine.proofs.Planned.{library_made, library_frame, library_fits, image_alone, image_made, image_fits, image_frame}
 
@@ -208,13 +210,13 @@ module _ (files : Files) (e : Engine) (name : Name) (size : Size) (h : Header) (
     fits = library_fits (image_changes name h) made files alone (image_fits h medium.new name files absent);
     holds = record { read = library_now; store = store_now; headers = images_now };
     by = step_now none;
-    kept = λ other is_name. elim (cases_Bool (bytes_eq name other)) [
+    kept = kept_media l made files now sound.library (λ other is_name. elim (cases_Bool (bytes_eq name other)) [
       | inl is ↦
           let same : name ≡ other = (bytes_eq-Decides name other).0 is in
           subst (λ o. KeepsBytes o (now other)) (sym (ap files (sym same) ∙ absent)) tt
       | inr apart ↦ kept (files other) (now other) (same_now other (medium_not_library other is_name) apart)
-    ];
-    strays = λ other inner gone. same_now other (inner_not_library other inner) (false_from_ne_true _ (λ is.
+    ]);
+    strays = λ other inner unlisted gone. same_now other (inner_not_library other inner) (false_from_ne_true _ (λ is.
         let same : name ≡ other = (bytes_eq-Decides name other).0 is in
         let no : true ≡ false = sym named ∙ ap is_medium_name same ∙ inner_not_medium other inner in
         absurd cc)) ∙ gone;

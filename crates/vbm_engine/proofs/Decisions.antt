@@ -6,7 +6,7 @@ use Rattle.std.proofs.lemmas.Slice.Eq.{bytes_eq-Decides}
 use Rattle.vbm_ports.specs.Names.{is_medium_name, is_inner_name}
 use Rattle.vbm_registry.specs.Library.{library_name}
 use Rattle.vbm_named.specs.Names.{Name}
-use Rattle.vbm_engine.specs.Steps.{KeepsBytes}
+use Rattle.vbm_engine.specs.Kept.{KeepsBytes}
 
 -- ---- names
 

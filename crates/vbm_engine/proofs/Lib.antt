@@ -4,6 +4,7 @@ mod Planned
 mod Pushing
 pub mod Openings
 pub mod Readiness
+pub mod Keeping
 pub mod Turning
 mod Asks
 mod Closes

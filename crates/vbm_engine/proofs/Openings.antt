@@ -10,33 +10,35 @@ use Rattle.vbm_ports.specs.Crash.{Only}
 use Rattle.vbm_ports.specs.Disk.{DiskState, Passes, OnlyReads, IsCoherent}
 use Rattle.vbm_ports.proofs.States.{Passes-trans, Passes-weaker}
 use Rattle.vbm_intent.specs.Changes.{log_name}
-use Rattle.vbm_intent.specs.Log.{IsShut, IsLikeRedone, RedoesTo}
+use Rattle.vbm_intent.specs.Log.{IsOpen, IsShut, IsShutInAll, closed, SameBesidesLog, IsLikeRedone, RedoesTo, redo_has_one_result}
 use Rattle.vbm_header.specs.declared.Header.{Header}
 use Rattle.vbm_header.specs.Header.{fields}
 use Rattle.vbm_volume.proofs.Likes.{image_fields}
 use Rattle.vbm_named.specs.Names.{Name}
+use Rattle.vbm_world.specs.World.{World}
 use Rattle.vbm_world.specs.Loose.{Unsettled}
 use Rattle.vbm_named.proofs.Lists.{name_sym}
 use Rattle.vbm_registry.specs.declared.media.Medium.{Medium}
 use Rattle.vbm_registry.specs.declared.library.Library.{Library}
 use Rattle.vbm_registry.specs.declared.fault.BadStore.{BadStore}
 use Rattle.vbm_registry.specs.declared.fault.BadStore.TheVariants.{SameId}
-use Rattle.vbm_registry.specs.Library.{head}
+use Rattle.vbm_registry.specs.Library.{library_name, head, IsLibrary}
 use Rattle.vbm_registry.specs.Reading.{library_in}
-use Rattle.vbm_registry.specs.Stands.{library_file, library_of, read_library, header_in, header_fault, image_fault, file_fault, own_fault, id_in, first_fault, same_id_fault, media_fault, held_by, Stands}
-use Rattle.vbm_registry.proofs.Stores.{held_if_store, store_if_no_fault, stands_redone, stands_alike, stands_once, stands_shut}
+use Rattle.vbm_registry.specs.Stands.{library_file, library_of, read_library, header_in, header_fault, image_fault, file_fault, own_fault, id_in, first_fault, same_id_fault, media_fault, held_by, Stands, redone, bad_log}
+use Rattle.vbm_registry.proofs.Stores.{held_if_store, store_if_no_fault, library_is, library_not_log, stands_redone, stands_alike, stands_once, stands_shut}
 use Rattle.vbm_engine.specs.declared.engine.Engine.{Engine}
 use Rattle.vbm_engine.specs.declared.engine.Image.{Image}
 use Rattle.vbm_engine.specs.declared.engine.Opened.{Opened}
 use Rattle.vbm_engine.specs.declared.engine.Opened.TheVariants as opened
 use Rattle.vbm_engine.specs.Serves.{serves, image_in, Holds, IsReady}
 use Rattle.vbm_engine.specs.Recovers.{IsSettled}
-use Rattle.vbm_engine.specs.Opens.{StandsAlike, Opens, SyncsFirst, AreRedone}
+use Rattle.vbm_engine.specs.Opens.{StandsAlike, AreKeptRedone, Opens, SyncsFirst, AreRedone}
 use Rattle.vbm_engine.specs.Images.{IsRead}
-use Rattle.vbm_engine.specs.declared.opening.Unopened.{Unopened}
-use Rattle.vbm_engine.specs.declared.opening.Unopened.TheVariants.{Bad, Failed, NoMemory}
+use Rattle.vbm_engine.specs.declared.undone.Undone.{Undone}
+use Rattle.vbm_engine.specs.declared.undone.Undone.TheVariants.{Refused, Failed, NoMemory}
 use Rattle.vbm_engine.specs.Parts.{Finds, ids_of, fault_behind, OpensOf}
-use Rattle.vbm_engine.proofs.Readiness.{settled_ready}
+use Rattle.vbm_engine.proofs.Keeping.{kept_itself, kept_besides}
+use Rattle.vbm_engine.proofs.Readiness.{holds_besides, settled_ready}
 
 -- ---- the library's file
 
@@ -65,9 +67,9 @@ front_read (Some f) old new n there long reads =
 -- ---- the images, one after the other
 
 finds_weaker : {X : Type 0} (P R : X → Type 0) (Q S : BadStore → Type 0) → ((x : X) → P x → R x) → ((bad : BadStore) → Q bad → S bad)
-    → (r : Result X Unopened) → Finds P Q r → Finds R S r
+    → (r : Result X (Undone BadStore)) → Finds P Q r → Finds R S r
 finds_weaker P R Q S found fault (Ok x) finds = found x finds
-finds_weaker P R Q S found fault (Err (Bad bad)) finds = fault bad finds
+finds_weaker P R Q S found fault (Err (Refused bad)) finds = fault bad finds
 finds_weaker P R Q S found fault (Err Failed) finds = tt
 finds_weaker P R Q S found fault (Err NoMemory) finds = tt
 
@@ -77,7 +79,7 @@ read_as l name None h read = absurd read
 read_as l name (Some f) h read = (ap (image_fault l name) read, image_fields f h read)
 
 pub medium_read : (l : Library) (files : Files) (m : Medium) (image : Image) → image.name ≡ m.name → IsRead (files m.name) (Ok image.header)
-    → (r : Result Image Unopened)
+    → (r : Result Image (Undone BadStore))
     → Finds (λ accepted. (header_fault l image.name image.header ≡ None) × (accepted ≡ image)) (λ bad. header_fault l image.name image.header ≡ Some bad) r
     → Finds (λ accepted. (own_fault l files m ≡ None) × (accepted ≡ image_in files m)) (λ bad. own_fault l files m ≡ Some bad) r
 unfolding header_in
@@ -167,14 +169,76 @@ after_redo old new to shut held stands = stands_shut new held shut (stands_once 
 
 pub opens_since : (old mid new : DiskState) (r : Opened) → mid.files ≡ old.files → Opens mid new r → Opens old new r
 opens_since old mid new (opened.Open e) same opens =
-    subst (λ f. Stands f (Ok (serves e new.files)) × RedoesTo new.files f × ((u : Unsettled) → IsReady e new u)) same opens
+    subst (λ f. Stands f (Ok (serves e new.files)) × AreKeptRedone f e.library new.files × ((u : Unsettled) → IsReady e new u)) same opens
 opens_since old mid new (opened.Refused bad) same opens = subst (λ f. Stands f (Err bad) × AreRedone f new.files) same opens
 opens_since old mid new opened.Fault same opens = tt
-opens_since old mid new opened.NoMemory same opens = subst (λ f. StandsAlike f new.files) same opens
+opens_since old mid new opened.NoMemory same opens = subst (λ f. StandsAlike f new.files × AreRedone f new.files) same opens
+
+-- the library of files after redo is that of the files, and they are kept
+kept_redone : (files now : Files) (l : Library) → RedoesTo now files → library_of now ≡ Ok l → AreKeptRedone files l now
+kept_redone files now l to read =
+    let lib = library_is now l read in
+    record {
+      redone = to.result;
+      redo = to.redo;
+      library = l;
+      read = ap library_file (to.same library_name library_not_log) ∙ read;
+      kept = kept_besides l l to.result to.result now lib (λ name other. sym (to.same name other)) (kept_itself l to.result lib);
+    }
+
+-- what a settled disk holds that old files are redone to
+opens_as : (old new : DiskState) (e : Engine) → RedoesTo new.files old.files → Only new.files new.may_leave → IsShutInAll new.may_leave
+    → new.may_leave new.files → Holds e.library e.images new.files → Opens old new (opened.Open e)
+opens_as old new e to only shut now holds = (
+  stands_redone new.files old.files _ to (held_if_store e.library new.files holds.read holds.store),
+  kept_redone old.files new.files e.library to holds.read,
+  (settled_ready e new holds only shut now).1,
+)
+
+-- ---- a log that is not open
+
+module _ (files : Files) (shut : IsOpen (files log_name) → ⊥) where
+  stands_closed : (held : Result World BadStore) → held_by files ≡ held → Stands files held
+  stands_closed held is = redone files (closed shut refl) is
+
+  alike_closed : (image : Files) → RedoesTo files image → StandsAlike files image
+  alike_closed image to held (redone result redo is) =
+      stands_redone files image held to (ap held_by (redo_has_one_result files files result (closed shut refl) redo) ∙ is)
+  alike_closed image to held (bad_log bad is) = absurd (shut bad.opens)
+
+-- the store is read, and refused
+pub closed_refused : (old new : DiskState) (bad : BadStore) → (IsOpen (old.files log_name) → ⊥) → new.files ≡ old.files → held_by old.files ≡ Err bad
+    → Opens old new (opened.Refused bad)
+closed_refused old new bad shut same held = (stands_closed old.files shut (Err bad) held, inl same)
+
+-- no memory, before anything was written
+pub untouched : (old new : DiskState) → new.files ≡ old.files → Opens old new opened.NoMemory
+untouched old new same = (subst (StandsAlike old.files) (sym same) (λ held stands. stands), inl same)
+
+-- what a settled disk leaves while it is only read stands for the same
+pub read_alike : {tells : Type 0} (old new : DiskState) → Only old.files old.may_leave → OnlyReads tells old new → Passes old new (StandsAlike old.files)
+read_alike old new only reads = Passes-weaker old new _ _ reads.time (λ image may. subst (StandsAlike old.files) (sym (only image may)) (λ held stands. stands))
+
+-- a settled disk is only read, and goes on
+pub goes_on_alike : {tells : Type 0} → tells → (old mid new : DiskState) → Only old.files old.may_leave → OnlyReads tells old mid
+    → Passes mid new (StandsAlike mid.files) → Passes old new (StandsAlike old.files)
+goes_on_alike told old mid new only reads after = Passes-trans old mid new _ _ _ (read_alike old mid only reads) after (λ image alike. alike)
+    (λ image alike. subst (λ f. StandsAlike f image) (reads.files told) alike)
+
+-- the log is started
+module _ (old new : DiskState) (shut : IsOpen (old.files log_name) → ⊥) where
+  pub started_passes : Passes old new (RedoesTo old.files) → Passes old new (StandsAlike old.files)
+  started_passes time = Passes-weaker old new _ _ time (alike_closed old.files shut)
+
+  pub started_opens : (e : Engine) → IsLibrary e.library → SameBesidesLog new.files old.files → Only new.files new.may_leave
+      → IsShutInAll new.may_leave → new.may_leave new.files → Holds e.library e.images old.files → Opens old new (opened.Open e)
+  started_opens e lib same only closes now holds =
+      opens_as old new e (record { result = old.files; redo = closed shut refl; same = λ name other. sym (same name other) }) only closes now
+      (holds_besides e.library e.images old.files new.files lib (λ name other. sym (same name other)) holds)
 
 -- the log is redone, and then the disk is only read
-module _ (tells : Type 0) (told : tells) (old mid new : DiskState) (redoes : RedoesTo mid.files old.files) (settled : IsSettled mid)
-    (reads : OnlyReads tells mid new) (now : new.may_leave new.files) where
+module _ (tells : Type 0) (told : tells) (old mid new : DiskState) (opens : IsOpen (old.files log_name)) (redoes : RedoesTo mid.files old.files)
+    (settled : IsSettled mid) (reads : OnlyReads tells mid new) (now : new.may_leave new.files) where
   redone_now : RedoesTo new.files old.files
   redone_now = subst (λ f. RedoesTo f old.files) (sym (reads.files told)) redoes
 
@@ -188,14 +252,10 @@ module _ (tells : Type 0) (told : tells) (old mid new : DiskState) (redoes : Red
   alike_now = after_redo old.files new.files redone_now shut_now
 
   opens_now : (r : Opened) → OpensOf new.files r → Opens old new r
-  opens_now (opened.Open e) holds = (
-    stands_redone new.files old.files _ redone_now (held_if_store e.library new.files holds.read holds.store),
-    redone_now,
-    (settled_ready e new holds only_now (λ image may. settled.shut image (reads.images image may)) now).1,
-  )
-  opens_now (opened.Refused bad) held = (stands_redone new.files old.files (Err bad) redone_now held, inl (redone_now, shut_now))
+  opens_now (opened.Open e) holds = opens_as old new e redone_now only_now (λ image may. settled.shut image (reads.images image may)) now holds
+  opens_now (opened.Refused bad) held = (stands_redone new.files old.files (Err bad) redone_now held, inr (opens, redone_now, shut_now))
   opens_now opened.Fault t = tt
-  opens_now opened.NoMemory t = alike_now
+  opens_now opened.NoMemory t = (alike_now, inr (opens, redone_now, shut_now))
 
   pub redone_opens : (r : Opened) → OpensOf mid.files r → Opens old new r
   redone_opens r of = opens_now r (subst (λ f. OpensOf f r) (sym (reads.files told)) of)

@@ -43,7 +43,7 @@ pub same_media : (a b : Files) → SameBesidesLog a b → SameMedia a b
 same_media a b same name named = sym (same name (medium_not_log name named))
 
 -- an item with a name, of a list whose items have P
-item_of : {X : Type 0} (name_of : X → Name) (P : X → Type 0) (name : Name) (xs : List X) → AllByRecursion P xs
+pub item_of : {X : Type 0} (name_of : X → Name) (P : X → Type 0) (name : Name) (xs : List X) → AllByRecursion P xs
     → has_name name_of name xs ≡ true → (x : X) × (name_of x ≡ name) × P x
 item_of name_of P name [] all has = absurd cc
 item_of name_of P name (x ∷ xs) all has = elim (cases_Bool (bytes_eq (name_of x) name)) [

@@ -40,7 +40,9 @@ use Rattle.vbm_engine.specs.Images.{IsRead}
 use Rattle.vbm_engine.specs.Plans.{library_changes}
 use Rattle.vbm_engine.specs.Registers.{image_checks}
 use Rattle.vbm_engine.specs.Serves.{serves, image_name, image_in, IsSoundEngine, Holds}
-use Rattle.vbm_engine.specs.Steps.{KeepsBytes, Turns, Decides}
+use Rattle.vbm_engine.specs.Kept.{KeepsBytes}
+use Rattle.vbm_engine.specs.Steps.{Turns, Decides}
+use Rattle.vbm_engine.proofs.Keeping.{kept_media}
 use Rattle.vbm_engine.proofs.Decisions.{medium_not_library, inner_not_library, kept_or}
 use Rattle.vbm_engine.proofs.Planned.{library_made, library_frame, library_fits}
 use Rattle.vbm_engine.proofs.Readiness.{images_same}
@@ -195,8 +197,9 @@ module _ (e : Engine) (files : Files) (name : Name) (holds : Holds e.library e.i
         fits = library_fits [] more files refl (λ n. tt);
         holds = more_holds;
         by = more_by;
-        kept = λ n is. subst (KeepsBytes (files n)) (sym (frame n (medium_not_library n is))) (kept_or (files n) false);
-        strays = λ n inner none. frame n (inner_not_library n inner) ∙ none;
+        kept = kept_media e.library more files now lib
+            (λ n is. subst (KeepsBytes (files n)) (sym (frame n (medium_not_library n is))) (kept_or (files n) false));
+        strays = λ n inner unlisted none. frame n (inner_not_library n inner) ∙ none;
       }
 
       pub registers : (k : Library) (images : List Image) (changes : List Change) → k ≡ more

@@ -1,5 +1,5 @@
 -- What opening an image answers.
-use Rattle.std.specs.Prelude.{◌≡◌, ℕ, List, Option, Some, None, Result, Ok, Err}
+use Rattle.std.specs.Prelude.{◌≡◌, ℕ, Bool, true, false, List, Option, Some, None, Result, Ok, Err}
 use Rattle.vbm_header.specs.declared.Header.{Header}
 use Rattle.vbm_header.specs.declared.BadImage.{BadImage}
 use Rattle.vbm_volume.specs.Image.{image_of}
@@ -19,3 +19,14 @@ OpensImage (Err faults.Missing) file = file ≡ None
 OpensImage (Err (faults.Bad bad)) file = IsRead file (Err bad)
 OpensImage (Err faults.Failed) file = Unit {0}
 OpensImage (Err faults.NoMemory) file = Unit {0}
+
+abbrev pub is_failed_image : OpenFault → Bool
+is_failed_image faults.Missing = false
+is_failed_image (faults.Bad bad) = false
+is_failed_image faults.Failed = true
+is_failed_image faults.NoMemory = false
+
+-- the disk failed
+abbrev pub image_failed : Result Image OpenFault → Bool
+image_failed (Ok image) = false
+image_failed (Err fault) = is_failed_image fault

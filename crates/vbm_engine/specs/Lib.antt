@@ -1,4 +1,7 @@
+pub mod Undone
+pub mod Listed
 pub mod Keeps
+pub mod Kept
 pub mod Serves
 pub mod Steps
 pub mod Opens

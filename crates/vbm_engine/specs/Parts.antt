@@ -8,19 +8,19 @@ use Rattle.vbm_registry.specs.Stands.{held_by, first_fault, own_fault, same_id_f
 use Rattle.vbm_engine.specs.declared.engine.Image.{Image}
 use Rattle.vbm_engine.specs.declared.engine.Opened.{Opened}
 use Rattle.vbm_engine.specs.declared.engine.Opened.TheVariants as opened
-use Rattle.vbm_engine.specs.declared.opening.Unopened.{Unopened}
-use Rattle.vbm_engine.specs.declared.opening.Unopened.TheVariants.{Bad, Failed, NoMemory}
+use Rattle.vbm_engine.specs.declared.undone.Undone.{Undone}
+use Rattle.vbm_engine.specs.declared.undone.Undone.TheVariants.{Refused, Failed, NoMemory}
 use Rattle.vbm_engine.specs.Serves.{Holds}
 
-abbrev pub OnBad : (BadStore → Type 0) → Unopened → Type 0
-OnBad Q (Bad bad) = Q bad
+abbrev pub OnBad : (BadStore → Type 0) → Undone BadStore → Type 0
+OnBad Q (Refused bad) = Q bad
 OnBad Q Failed = Unit {0}
 OnBad Q NoMemory = Unit {0}
 
 -- what is found has P, and a fault has Q
-abbrev pub Finds : {X : Type 0} → (X → Type 0) → (BadStore → Type 0) → Result X Unopened → Type 0
+abbrev pub Finds : {X : Type 0} → (X → Type 0) → (BadStore → Type 0) → Result X (Undone BadStore) → Type 0
 Finds P Q (Ok x) = P x
-Finds P Q (Err unopened) = OnBad Q unopened
+Finds P Q (Err undone) = OnBad Q undone
 
 -- the identifiers of images
 abbrev pub ids_of : List Image → List (List ℕ)

@@ -1,8 +1,8 @@
 -- What a step does, a crash in it included, and what a command owes for it.
-use Rattle.std.specs.Prelude.{◌≡◌, ◌⊎◌, ℕ, List, [], map, Option, Some, None, IsTrue}
+use Rattle.std.specs.Prelude.{◌≡◌, ◌⊎◌, ℕ, Bool, true, false, List, [], map, None, IsTrue, IsFalse}
 use Rattle.vbm_ports.specs.Files.{Files}
 use Rattle.vbm_ports.specs.Disk.{DiskState}
-use Rattle.vbm_ports.specs.Names.{is_medium_name, is_inner_name}
+use Rattle.vbm_ports.specs.Names.{is_inner_name}
 use Rattle.vbm_intent.specs.declared.change.Change.{Change}
 use Rattle.vbm_intent.specs.Changes.{changed, Fits}
 use Rattle.vbm_world.specs.declared.command.Command.{Command}
@@ -20,24 +20,19 @@ use Rattle.vbm_engine.specs.declared.engine.Decided.{Decided}
 use Rattle.vbm_engine.specs.declared.engine.Decided.TheVariants as decided
 use Rattle.vbm_engine.specs.declared.engine.Stepped.{Stepped}
 use Rattle.vbm_engine.specs.declared.engine.Stepped.TheVariants.{Next, NoMemory, Broken}
+use Rattle.vbm_engine.specs.Listed.{is_inner_of}
+use Rattle.vbm_engine.specs.Kept.{AreKept}
 use Rattle.vbm_engine.specs.Serves.{serves, image_name, IsSoundEngine, Holds, FitsDisk, IsReady, StandsLoosely, both}
 
--- ---- files that are kept
+-- no file with an inner image's name came that the library does not list
+abbrev pub HasNoStrays : Library → Files → Files → Type 0
+HasNoStrays l files now = (name : Name) → IsTrue (is_inner_name name) → IsFalse (is_inner_of l name) → files name ≡ None → now name ≡ None
 
-abbrev pub KeepsBytes : Option (List ℕ) → Option (List ℕ) → Type 0
-KeepsBytes (Some file) (Some now) = now ≡ file
-KeepsBytes (Some file) None = Unit {0}
-KeepsBytes None now = Unit {0}
-
--- Each file with a medium's name that is there before and after is the same, byte for byte.
-abbrev pub AreKept : Files → Files → Type 0
-AreKept files now = (name : Name) → IsTrue (is_medium_name name) → KeepsBytes (files name) (now name)
-
--- A tidy store: nothing is being made or merged, and no file with an inner image's name came that the library does not list.
+-- a tidy store: nothing is being made or merged, and there are no strays
 pub record IsTidy (l : Library) (files now : Files) : Type 0 where
   pub making : l.making ≡ None
   pub merging : l.merging ≡ []
-  pub strays : (name : Name) → IsTrue (is_inner_name name) → files name ≡ None → now name ≡ None
+  pub strays : HasNoStrays l files now
 
 -- ---- a step
 
@@ -47,7 +42,7 @@ pub record Advances (old new : DiskState) (e next : Engine) (c : Command) (a : A
   pub by : (a, serves next new.files) ≡ step_of (serves e old.files) c number
   pub fits : FitsDisk next new
   pub ready : (u : Unsettled) → IsReady e old u → IsReady next new (unsettled_after u (serves e old.files) c)
-  pub kept : AreKept old.files new.files
+  pub kept : AreKept e.library old.files next.library new.files
   pub tidy : IsTidy next.library old.files new.files
 
 -- the engine `next` serves what e did
@@ -55,7 +50,7 @@ pub record Stays (old new : DiskState) (e next : Engine) : Type 0 where
   pub same : serves next new.files ≡ serves e old.files
   pub fits : FitsDisk next new
   pub ready : (u : Unsettled) → IsReady e old u → IsReady next new u
-  pub kept : AreKept old.files new.files
+  pub kept : AreKept e.library old.files next.library new.files
 
 abbrev pub Hands : DiskState → DiskState → Engine → Command → Stepped → Type 0
 Hands old new e c (Next next a) = Advances old new e next c a
@@ -74,10 +69,11 @@ HandsSound (Next next a) = IsSoundEngine next
 HandsSound (NoMemory next) = IsSoundEngine next
 HandsSound Broken = Unit {0}
 
-abbrev pub OnBroken : Stepped → Type 0 → Type 0
-OnBroken (Next next a) P = Unit {0}
-OnBroken (NoMemory next) P = Unit {0}
-OnBroken Broken P = P
+-- the disk failed in the step
+abbrev pub step_failed : Stepped → Bool
+step_failed (Next next a) = false
+step_failed (NoMemory next) = false
+step_failed Broken = true
 
 -- ---- what a command owes
 
@@ -86,8 +82,8 @@ pub record Turns (files : Files) (e : Engine) (c : Command) (library : Library) 
   pub fits : Fits plan files
   pub holds : Holds library images (changed plan files)
   pub by : (a, world_with none_changed library (changed plan files)) ≡ step_of (serves e files) c 0
-  pub kept : AreKept files (changed plan files)
-  pub strays : (name : Name) → IsTrue (is_inner_name name) → files name ≡ None → changed plan files name ≡ None
+  pub kept : AreKept e.library files library (changed plan files)
+  pub strays : HasNoStrays library files (changed plan files)
 
 -- What was decided: an answer that leaves the world as it is, or a plan.
 abbrev pub Decides : Files → Engine → Command → Decided → Type 0
@@ -104,8 +100,9 @@ DecidesSound (decided.Turn library images plan a) = IsLibrary library × (map im
 DecidesSound decided.NoMemory = Unit {0}
 DecidesSound decided.Failed = Unit {0}
 
-abbrev pub OnFailed : Decided → Type 0 → Type 0
-OnFailed (decided.Stay a) P = Unit {0}
-OnFailed (decided.Turn library images plan a) P = Unit {0}
-OnFailed decided.NoMemory P = Unit {0}
-OnFailed decided.Failed P = P
+-- the disk failed while it was decided
+abbrev pub deciding_failed : Decided → Bool
+deciding_failed (decided.Stay a) = false
+deciding_failed (decided.Turn library images plan a) = false
+deciding_failed decided.NoMemory = false
+deciding_failed decided.Failed = true

@@ -7,7 +7,7 @@ ghost use Rattle.vbm_registry.specs.Stands.{variant_of as variant_by_type};
 ghost use Rattle.vbm_world.specs.declared.command.Command.TheVariants.{ShowMediumInfo, ListHdds};
 ghost use Rattle.vbm_world.specs.declared.command.Answer.TheVariants as answers;
 ghost use Rattle.vbm_engine.specs.Serves.{Holds};
-ghost use Rattle.vbm_engine.specs.Steps.{Decides, DecidesSound, OnFailed};
+ghost use Rattle.vbm_engine.specs.Steps.{Decides, DecidesSound, deciding_failed};
 
 use crate::engine::{Decided, Engine, Image};
 use std::alloc::Global;
@@ -48,7 +48,7 @@ pub(crate) fn decide_show(engine: &Engine, name: &[u8]) -> Decided
     ensures decides { (files : Files) → Holds engine.now.library engine.now.images files
         → Decides files engine.now (ShowMediumInfo name.now) result }
     ensures sound { DecidesSound result }
-    ensures cause { OnFailed result ⊥ }
+    ensures no_fault { deciding_failed result ≡ false }
 {
     let Some(medium) = engine.library.media.find(name) else {
         return Decided::Stay(Answer::Refused(Refusal::NoSuchMedium));
@@ -73,7 +73,7 @@ fn media_names(alloc: Global, media: &Media) -> Result<Names, NoMemory>
 pub(crate) fn decide_list(alloc: Global, engine: &Engine) -> Decided
     ensures decides { (files : Files) → Decides files engine.now ListHdds result }
     ensures sound { DecidesSound result }
-    ensures cause { OnFailed result ⊥ }
+    ensures no_fault { deciding_failed result ≡ false }
 {
     match media_names(alloc, &engine.library.media) {
         Ok(names) => Decided::Stay(Answer::MediaList(names)),

@@ -1,6 +1,6 @@
 //! Closing media.
 
-ghost use Rattle.std.specs.Prelude.{◌≡◌, ◌++◌, IfOk, IsTrue};
+ghost use Rattle.std.specs.Prelude.{◌≡◌, ◌++◌, IfOk, IsTrue, false};
 ghost use Rattle.vbm_ports.specs.Files.{Files};
 ghost use Rattle.vbm_ports.specs.Names.{is_medium_name};
 ghost use Rattle.vbm_registry.specs.Library.{medium_entry_name, without_entry, IsLibrary};
@@ -9,7 +9,7 @@ ghost use Rattle.vbm_world.specs.declared.command.Command.TheVariants.{CloseMedi
 ghost use Rattle.vbm_engine.specs.Closes.{removal};
 ghost use Rattle.vbm_engine.specs.Plans.{library_changes};
 ghost use Rattle.vbm_engine.specs.Serves.{image_name, IsSoundEngine, Holds};
-ghost use Rattle.vbm_engine.specs.Steps.{Decides, DecidesSound, OnFailed};
+ghost use Rattle.vbm_engine.specs.Steps.{Decides, DecidesSound, deciding_failed};
 
 use crate::engine::{Decided, Engine, Images};
 use crate::plans::plan_library;
@@ -76,7 +76,7 @@ fn close_found(alloc: Global, engine: &Engine, name: &[u8], delete: bool) -> Dec
     ensures decides { (files : Files) → Holds engine.now.library engine.now.images files
         → Decides files engine.now (CloseMedium name.now delete) result }
     ensures sound { DecidesSound result }
-    ensures cause { OnFailed result ⊥ }
+    ensures no_fault { deciding_failed result ≡ false }
 {
     match close_entry(alloc, engine, name, delete) {
         Ok((library, images, plan)) => Decided::Turn {
@@ -96,7 +96,7 @@ pub(crate) fn decide_close(alloc: Global, engine: &Engine, name: &[u8], delete: 
     ensures decides { (files : Files) → Holds engine.now.library engine.now.images files
         → Decides files engine.now (CloseMedium name.now delete) result }
     ensures sound { DecidesSound result }
-    ensures cause { OnFailed result ⊥ }
+    ensures no_fault { deciding_failed result ≡ false }
 {
     match engine.library.media.find(name) {
         Some(_) => close_found(alloc, engine, name, delete),

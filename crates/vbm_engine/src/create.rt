@@ -1,7 +1,7 @@
 //! Making media.
 
 ghost use Rattle.std.specs.Prelude.{◌≡◌, ◌+◌, ◌<◌, ◌≤◌, ◌^◌, ◌++◌, None, length, IfOk, OnErr, IsTrue, IsFalse};
-ghost use Rattle.vbm_ports.specs.Counts.{Rose};
+ghost use Rattle.vbm_ports.specs.Counts.{Rose, IsCounted};
 ghost use Rattle.vbm_ports.specs.Disk.{OnlyReads};
 ghost use Rattle.vbm_ports.specs.Names.{is_medium_name};
 ghost use Rattle.vbm_header.specs.declared.ImageType.TheVariants.{Dynamic};
@@ -15,7 +15,7 @@ ghost use Rattle.vbm_registry.specs.Library.{medium_entry_name, IsLibrary};
 ghost use Rattle.vbm_registry.specs.Stands.{world_with, none_changed};
 ghost use Rattle.vbm_engine.specs.Plans.{library_changes, image_changes};
 ghost use Rattle.vbm_engine.specs.Serves.{IsSoundEngine, FitsDisk};
-ghost use Rattle.vbm_engine.specs.Steps.{Decides, DecidesSound, OnFailed};
+ghost use Rattle.vbm_engine.specs.Steps.{Decides, DecidesSound, deciding_failed};
 ghost use Rattle.vbm_engine.specs.Creates.{first_check, library_made, CanCreate, IsNewMedium, Creates};
 
 use crate::engine::{Decided, Engine, Image};
@@ -74,6 +74,7 @@ fn create_refusal<D: Disk>(
     ensures absent { D.tells → IfOk result (λ r. r ≡ None → (D.state disk.old).files name.now ≡ None) }
     ensures reads { OnlyReads D.tells (D.state disk.old) (D.state disk.new) }
     ensures cause { OnErr result (Rose (D.state disk.old).faults (D.state disk.new).faults) }
+    ensures no_fault { IfOk result (λ _. (D.state disk.new).faults ≡ (D.state disk.old).faults) }
 {
     let len = disk.length(name)?;
     Ok(first_that_holds(
@@ -172,7 +173,7 @@ pub(crate) fn decide_create<D: Disk>(
     ensures decides { D.tells → Decides (D.state disk.old).files engine.now (commands.CreateMedium name.now size variant) result }
     ensures sound { DecidesSound result }
     ensures reads { OnlyReads D.tells (D.state disk.old) (D.state disk.new) }
-    ensures cause { OnFailed result (Rose (D.state disk.old).faults (D.state disk.new).faults) }
+    ensures faults { IsCounted (deciding_failed result) (D.state disk.old).faults (D.state disk.new).faults }
 {
     match create_refusal(&engine.library, disk, name.bytes(), size) {
         Err(Failed) => Decided::Failed,

@@ -1,10 +1,10 @@
 //! Images of the store's files.
 
 ghost use Rattle.std.specs.Prelude.{◌≡◌, ℕ, List, length, Some, None, Err, IfOk, IfErr};
-ghost use Rattle.vbm_ports.specs.Counts.{Rose};
+ghost use Rattle.vbm_ports.specs.Counts.{IsCounted};
 ghost use Rattle.vbm_ports.specs.Disk.{OnlyReads};
 ghost use Rattle.vbm_ports.specs.Names.{IsStoreName};
-ghost use Rattle.vbm_engine.specs.Images.{OpensImage};
+ghost use Rattle.vbm_engine.specs.Images.{OpensImage, image_failed};
 
 use crate::engine::Image;
 use std::alloc::Global;
@@ -35,8 +35,7 @@ pub(crate) fn open_image<D: Disk>(
     ensures told { D.tells → OpensImage result ((D.state disk.old).files name.now) }
     ensures name { IfOk result (λ image. image.name ≡ name.now) }
     ensures reads { OnlyReads D.tells (D.state disk.old) (D.state disk.new) }
-    ensures cause { result ≡ Err OpenFault.Failed
-        → Rose (D.state disk.old).faults (D.state disk.new).faults }
+    ensures faults { IsCounted (image_failed result) (D.state disk.old).faults (D.state disk.new).faults }
 {
     match disk.length(name) {
         Err(Failed) => Err(OpenFault::Failed),
@@ -59,8 +58,7 @@ fn open_file<D: Disk>(
     ensures told { D.tells → OpensImage result ((D.state disk.old).files name.now) }
     ensures name { IfOk result (λ image. image.name ≡ name.now) }
     ensures reads { OnlyReads D.tells (D.state disk.old) (D.state disk.new) }
-    ensures cause { result ≡ Err OpenFault.Failed
-        → Rose (D.state disk.old).faults (D.state disk.new).faults }
+    ensures faults { IsCounted (image_failed result) (D.state disk.old).faults (D.state disk.new).faults }
 {
     match read_image(alloc, disk, name, len, 0) {
         Ok((header, _)) => name_image(alloc, name, header),

@@ -1,18 +1,19 @@
 //! Making a library.
 
 ghost use Rattle.std.specs.Prelude.{◌≡◌, ◌≤◌, ◌⊎◌, None, IfOk};
-ghost use Rattle.vbm_ports.specs.Counts.{Rose};
+ghost use Rattle.vbm_ports.specs.Counts.{IsCounted};
 ghost use Rattle.vbm_ports.specs.Crash.{Only};
 ghost use Rattle.vbm_ports.specs.Disk.{Passes, OnlyReads};
 ghost use Rattle.vbm_intent.specs.Log.{IsLikeRedone};
 ghost use Rattle.vbm_registry.specs.Library.{library_name};
-ghost use Rattle.vbm_engine.specs.Opens.{empty_library, Makes, SyncsFirst, OnMadeFailed, StandsNew, IsMaking};
+ghost use Rattle.vbm_engine.specs.Opens.{empty_library, Makes, SyncsFirst, RefusesBadLog, making_failed, StandsNew, IsMaking};
 ghost use Rattle.vbm_engine.specs.Recovers.{IsSettled};
 ghost use Rattle.vbm_engine.specs.Inits.{IsNewPlan, MakesOver, IsOver};
 
 use crate::engine::Made;
 use crate::plans::{LIBRARY_NAME, plan_library};
-use crate::recover::{Recovered, recover};
+use crate::recover::{BadLog, recover};
+use crate::undone::Undone;
 use std::alloc::Global;
 use uuid::Uuid;
 use vbm_intent::{Log, Plan};
@@ -52,8 +53,8 @@ fn make_absent<D: Disk>(alloc: Global, disk: &mut D, mut log: Log, seed: Uuid) -
     requires absent { D.tells → (D.state disk.old).files library_name ≡ None }
     ensures made { D.tells → MakesOver seed (D.state disk.old) (D.state disk.new) result }
     ensures any_moment { D.tells → Passes (D.state disk.old) (D.state disk.new) (IsOver seed (D.state disk.old)) }
-    ensures faults { (D.state disk.old).faults ≤ (D.state disk.new).faults }
-    ensures cause { OnMadeFailed result (Rose (D.state disk.old).faults (D.state disk.new).faults) }
+    ensures refused { RefusesBadLog result }
+    ensures faults { IsCounted (making_failed result) (D.state disk.old).faults (D.state disk.new).faults }
 {
     let Ok(plan) = new_plan(alloc, seed) else {
         return Made::NoMemory;
@@ -69,8 +70,8 @@ fn make_over<D: Disk>(alloc: Global, disk: &mut D, log: Log, seed: Uuid) -> Made
     requires settled { D.tells → IsSettled (D.state disk.old) }
     ensures made { D.tells → MakesOver seed (D.state disk.old) (D.state disk.new) result }
     ensures any_moment { D.tells → Passes (D.state disk.old) (D.state disk.new) (IsOver seed (D.state disk.old)) }
-    ensures faults { (D.state disk.old).faults ≤ (D.state disk.new).faults }
-    ensures cause { OnMadeFailed result (Rose (D.state disk.old).faults (D.state disk.new).faults) }
+    ensures refused { RefusesBadLog result }
+    ensures faults { IsCounted (making_failed result) (D.state disk.old).faults (D.state disk.new).faults }
 {
     match disk.length(LIBRARY_NAME) {
         Err(Failed) => Made::Failed,
@@ -85,14 +86,14 @@ fn make_settled<D: Disk>(alloc: Global, disk: &mut D, seed: Uuid) -> Made
     ensures made { D.tells → Makes seed (D.state disk.old) (D.state disk.new) result }
     ensures any_moment { D.tells → Passes (D.state disk.old) (D.state disk.new)
         (λ image. IsLikeRedone (D.state disk.old).files image ⊎ StandsNew seed (D.state disk.old).files image) }
-    ensures faults { (D.state disk.old).faults ≤ (D.state disk.new).faults }
-    ensures cause { OnMadeFailed result (Rose (D.state disk.old).faults (D.state disk.new).faults) }
+    ensures refused { RefusesBadLog result }
+    ensures faults { IsCounted (making_failed result) (D.state disk.old).faults (D.state disk.new).faults }
 {
     match recover(alloc, disk) {
-        Recovered::Ready(log) => make_over(alloc, disk, log, seed),
-        Recovered::BadLog => Made::Refused(BadStore::BadLog),
-        Recovered::Failed => Made::Failed,
-        Recovered::NoMemory => Made::NoMemory,
+        Ok(log) => make_over(alloc, disk, log, seed),
+        Err(Undone::Refused(BadLog)) => Made::Refused(BadStore::BadLog),
+        Err(Undone::Failed) => Made::Failed,
+        Err(Undone::NoMemory) => Made::NoMemory,
     }
 }
 
@@ -105,8 +106,8 @@ pub fn make_library<D: Disk>(alloc: Global, disk: &mut D, seed: Uuid) -> Made
         (λ image. (D.state disk.old).may_leave image ⊎ IsLikeRedone (D.state disk.old).files image ⊎ StandsNew seed (D.state disk.old).files image) }
     ensures synced { D.tells → SyncsFirst (D.state disk.old) (D.state disk.new) (IsMaking seed (D.state disk.old).files)
         ⊎ ((result ≡ Made.Failed) × OnlyReads D.tells (D.state disk.old) (D.state disk.new)) }
-    ensures faults { (D.state disk.old).faults ≤ (D.state disk.new).faults }
-    ensures cause { OnMadeFailed result (Rose (D.state disk.old).faults (D.state disk.new).faults) }
+    ensures refused { RefusesBadLog result }
+    ensures faults { IsCounted (making_failed result) (D.state disk.old).faults (D.state disk.new).faults }
 {
     match disk.sync() {
         Ok(()) => make_settled(alloc, disk, seed),

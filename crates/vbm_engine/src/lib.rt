@@ -14,6 +14,7 @@ mod plans;
 mod recover;
 mod register;
 mod step;
+mod undone;
 
 pub use engine::{Engine, Image, Images, Made, Opened, Stepped};
 pub use init::make_library;

@@ -1,28 +1,32 @@
 //! Opening a store.
 
-ghost use Rattle.std.specs.Prelude.{◌≡◌, ◌≢◌, ◌⊎◌, ◌+◌, ◌^◌, ◌≤◌, min, length, ◌∷◌, ◌++◌, [], ℕ, List, map, Option, Some, None, Result, Ok, Err, IfOk, OnOk};
+ghost use Rattle.std.specs.Prelude.{◌≡◌, ◌≢◌, ◌⊎◌, ◌+◌, ◌^◌, ◌≤◌, min, length, ◌∷◌, ◌++◌, [], ℕ, List, map, Option, Some, None, Result, Ok, Err, IfOk, OnOk, false};
 ghost use Rattle.std.specs.List.{list_any};
 ghost use Rattle.std.specs.Str.{bytes_eq};
 ghost use Rattle.vbm_ports.specs.Files.{bytes_of};
-ghost use Rattle.vbm_ports.specs.Counts.{Rose};
+ghost use Rattle.vbm_ports.specs.Counts.{IsCounted};
 ghost use Rattle.vbm_ports.specs.Crash.{Only};
 ghost use Rattle.vbm_ports.specs.Disk.{Passes, OnlyReads};
 ghost use Rattle.vbm_ports.specs.Names.{IsStoreName};
+ghost use Rattle.vbm_intent.specs.Changes.{log_name};
+ghost use Rattle.vbm_intent.specs.Log.{IsOpen, recorded_size};
 ghost use Rattle.vbm_registry.specs.Library.{library_name, medium_entry_name, IsLibrary};
 ghost use Rattle.vbm_registry.specs.Reading.{library_in};
 ghost use Rattle.vbm_registry.specs.Stands.{library_of, read_library, header_fault, file_fault, own_fault, same_id_fault, media_fault, held_by};
-ghost use Rattle.vbm_engine.specs.Images.{OpensImage};
-ghost use Rattle.vbm_engine.specs.Serves.{image_name, image_in, Holds, IsSoundEngine};
-ghost use Rattle.vbm_engine.specs.Opens.{Opens, SyncsFirst, OpensSound, OnFault, StandsAlike};
+ghost use Rattle.vbm_engine.specs.Undone.{is_failed, has_failed};
+ghost use Rattle.vbm_engine.specs.Images.{OpensImage, is_failed_image};
+ghost use Rattle.vbm_engine.specs.Serves.{image_name, image_in, Holds};
+ghost use Rattle.vbm_engine.specs.Opens.{Opens, SyncsFirst, OpensSound, opening_failed, StandsAlike};
 ghost use Rattle.vbm_engine.specs.Parts.{OnBad, Finds, ids_of, fault_behind, OpensOf};
 
 use crate::engine::{Engine, Image, Images, Opened};
 use crate::foreign::is_foreign_id;
 use crate::image::{OpenFault, open_image};
-use crate::recover::{Recovered, recover};
+use crate::recover::{BadLog, recover_record};
+use crate::undone::Undone;
 use std::alloc::Global;
 use uuid::Uuid;
-use vbm_intent::Log;
+use vbm_intent::{Log, record_size};
 use vbm_ports::{Disk, Failed, NoMemory, Text};
 use vbm_registry::{BadStore, DecodeFault, Library, Medium, decode};
 
@@ -31,20 +35,10 @@ const LIBRARY: &[u8] = b"library.vbm";
 /// No library is longer, in bytes.
 const LONGEST_LIBRARY: u64 = 1 << 20;
 
-/// Why a store was not opened.
-#[derive(Drop)]
-pub(crate) enum Unopened {
-    /// The first fault of the store.
-    Bad(BadStore),
-    /// The disk failed.
-    Failed,
-    /// There was no memory.
-    NoMemory,
-}
-
 /// Opens a store: makes the changes that wait in its log, and reads its library and every image of it. The first fault of the
-/// store is the answer otherwise. A crash inside it, any number of times, changes nothing of what the store stands for: until
-/// its first sync has returned it leaves what it could have left at the call, and from then on what stands for the same.
+/// store is the answer otherwise; its files then stay, but for a log whose gate was open, whose changes are made. A crash inside
+/// it, any number of times, changes nothing of what the store stands for: until its first sync has returned it leaves what it
+/// could have left at the call, and from then on what stands for the same.
 pub fn open<D: Disk>(alloc: Global, disk: &mut D) -> Opened
     ensures opens { D.tells → Opens (D.state disk.old) (D.state disk.new) result }
     ensures sound { OpensSound result }
@@ -52,8 +46,7 @@ pub fn open<D: Disk>(alloc: Global, disk: &mut D) -> Opened
         (λ image. (D.state disk.old).may_leave image ⊎ StandsAlike (D.state disk.old).files image) }
     ensures synced { D.tells → SyncsFirst (D.state disk.old) (D.state disk.new) (StandsAlike (D.state disk.old).files)
         ⊎ ((result ≡ Opened.Fault) × OnlyReads D.tells (D.state disk.old) (D.state disk.new)) }
-    ensures faults { (D.state disk.old).faults ≤ (D.state disk.new).faults }
-    ensures cause { OnFault result (Rose (D.state disk.old).faults (D.state disk.new).faults) }
+    ensures faults { IsCounted (opening_failed result) (D.state disk.old).faults (D.state disk.new).faults }
 {
     match disk.sync() {
         Ok(()) => open_settled(alloc, disk),
@@ -68,113 +61,177 @@ fn open_settled<D: Disk>(alloc: Global, disk: &mut D) -> Opened
     ensures sound { OpensSound result }
     ensures any_moment { D.tells
         → Passes (D.state disk.old) (D.state disk.new) (StandsAlike (D.state disk.old).files) }
-    ensures faults { (D.state disk.old).faults ≤ (D.state disk.new).faults }
-    ensures cause { OnFault result (Rose (D.state disk.old).faults (D.state disk.new).faults) }
+    ensures faults { IsCounted (opening_failed result) (D.state disk.old).faults (D.state disk.new).faults }
 {
-    match recover(alloc, disk) {
-        Recovered::Ready(log) => open_redone(alloc, disk, log),
-        Recovered::BadLog => Opened::Refused(BadStore::BadLog),
-        Recovered::Failed => Opened::Fault,
-        Recovered::NoMemory => Opened::NoMemory,
+    match record_size(disk) {
+        Ok(Some(size)) => open_pending(alloc, disk, size),
+        Ok(None) => open_closed(alloc, disk),
+        Err(Failed) => Opened::Fault,
     }
 }
 
-// Opens a store whose log is shut.
+// Opens a store in whose log a record of this size waits: its changes are made first.
+fn open_pending<D: Disk>(alloc: Global, disk: &mut D, size: u32) -> Opened
+    requires settled { D.tells → Only (D.state disk.old).files (D.state disk.old).may_leave }
+    requires open { D.tells → IsOpen ((D.state disk.old).files log_name) }
+    requires told { D.tells → size ≡ recorded_size ((D.state disk.old).files log_name) }
+    requires bound { size ≤ 2 ^ 25 }
+    ensures opens { D.tells → Opens (D.state disk.old) (D.state disk.new) result }
+    ensures sound { OpensSound result }
+    ensures any_moment { D.tells
+        → Passes (D.state disk.old) (D.state disk.new) (StandsAlike (D.state disk.old).files) }
+    ensures faults { IsCounted (opening_failed result) (D.state disk.old).faults (D.state disk.new).faults }
+{
+    match recover_record(alloc, disk, Some(size)) {
+        Ok(log) => open_redone(alloc, disk, log),
+        Err(Undone::Refused(BadLog)) => Opened::Refused(BadStore::BadLog),
+        Err(Undone::Failed) => Opened::Fault,
+        Err(Undone::NoMemory) => Opened::NoMemory,
+    }
+}
+
+// Opens a store whose log was redone.
 fn open_redone<D: Disk>(alloc: Global, disk: &mut D, log: Log) -> Opened
     ensures opens { D.tells → OpensOf (D.state disk.old).files result }
     ensures sound { OpensSound result }
     ensures reads { OnlyReads D.tells (D.state disk.old) (D.state disk.new) }
-    ensures cause { OnFault result (Rose (D.state disk.old).faults (D.state disk.new).faults) }
+    ensures faults { IsCounted (opening_failed result) (D.state disk.old).faults (D.state disk.new).faults }
 {
-    match load(alloc, disk, log) {
-        Ok(engine) => Opened::Open(engine),
-        Err(Unopened::Bad(bad)) => Opened::Refused(bad),
-        Err(Unopened::Failed) => Opened::Fault,
-        Err(Unopened::NoMemory) => Opened::NoMemory,
+    match load(alloc, disk) {
+        Ok((library, images)) => Opened::Open(Engine {
+            library,
+            images,
+            log,
+        }),
+        Err(Undone::Refused(bad)) => Opened::Refused(bad),
+        Err(Undone::Failed) => Opened::Fault,
+        Err(Undone::NoMemory) => Opened::NoMemory,
     }
 }
 
-// The engine of the files.
-fn load<D: Disk>(alloc: Global, disk: &mut D, log: Log) -> Result<Engine, Unopened>
-    ensures told { D.tells
-        → Finds (λ e. Holds e.library e.images (D.state disk.old).files) (λ bad. held_by (D.state disk.old).files ≡ Err bad) result }
-    ensures sound { IfOk result IsSoundEngine }
+// Opens a store whose log's gate is not open. The log is left alone unless the store opens.
+fn open_closed<D: Disk>(alloc: Global, disk: &mut D) -> Opened
+    requires settled { D.tells → Only (D.state disk.old).files (D.state disk.old).may_leave }
+    requires closed { D.tells → IsOpen ((D.state disk.old).files log_name) → ⊥ }
+    ensures opens { D.tells → Opens (D.state disk.old) (D.state disk.new) result }
+    ensures sound { OpensSound result }
+    ensures any_moment { D.tells
+        → Passes (D.state disk.old) (D.state disk.new) (StandsAlike (D.state disk.old).files) }
+    ensures faults { IsCounted (opening_failed result) (D.state disk.old).faults (D.state disk.new).faults }
+{
+    match load(alloc, disk) {
+        Ok((library, images)) => start(disk, library, images),
+        Err(Undone::Refused(bad)) => Opened::Refused(bad),
+        Err(Undone::Failed) => Opened::Fault,
+        Err(Undone::NoMemory) => Opened::NoMemory,
+    }
+}
+
+// Starts the log of a store that opens.
+fn start<D: Disk>(disk: &mut D, library: Library, images: Images) -> Opened
+    requires settled { D.tells → Only (D.state disk.old).files (D.state disk.old).may_leave }
+    requires closed { D.tells → IsOpen ((D.state disk.old).files log_name) → ⊥ }
+    requires holds { D.tells → Holds library images (D.state disk.old).files }
+    requires rules { IsLibrary library }
+    requires names { map image_name images ≡ map medium_entry_name library.media }
+    ensures opens { D.tells → Opens (D.state disk.old) (D.state disk.new) result }
+    ensures sound { OpensSound result }
+    ensures any_moment { D.tells
+        → Passes (D.state disk.old) (D.state disk.new) (StandsAlike (D.state disk.old).files) }
+    ensures faults { IsCounted (opening_failed result) (D.state disk.old).faults (D.state disk.new).faults }
+{
+    match Log::start(disk) {
+        Ok(log) => Opened::Open(Engine {
+            library,
+            images,
+            log,
+        }),
+        Err(Failed) => Opened::Fault,
+    }
+}
+
+// The library and the images of the files.
+fn load<D: Disk>(alloc: Global, disk: &mut D) -> Result<(Library, Images), Undone<BadStore>>
+    ensures told { D.tells → Finds
+        (λ x. Holds x.0 x.1 (D.state disk.old).files) (λ bad. held_by (D.state disk.old).files ≡ Err bad) result }
+    ensures rules { IfOk result (λ x. IsLibrary x.0) }
+    ensures names { IfOk result (λ x. map image_name x.1 ≡ map medium_entry_name (x.0).media) }
     ensures reads { OnlyReads D.tells (D.state disk.old) (D.state disk.new) }
-    ensures cause { result ≡ Err Unopened.Failed
-        → Rose (D.state disk.old).faults (D.state disk.new).faults }
+    ensures faults { IsCounted (has_failed result) (D.state disk.old).faults (D.state disk.new).faults }
 {
     let library = load_library(alloc, disk)?;
     let images = open_images(alloc, disk, &library)?;
-    Ok(Engine {
-        library,
-        images,
-        log,
-    })
+    Ok((library, images))
 }
 
 // Reads the library's file, and no more of it than shows that it is too long.
-fn load_library<D: Disk>(alloc: Global, disk: &mut D) -> Result<Library, Unopened>
+fn load_library<D: Disk>(alloc: Global, disk: &mut D) -> Result<Library, Undone<BadStore>>
     ensures told { D.tells
         → Finds (λ l. library_of (D.state disk.old).files ≡ Ok l) (λ bad. library_of (D.state disk.old).files ≡ Err bad) result }
     ensures sound { IfOk result IsLibrary }
     ensures reads { OnlyReads D.tells (D.state disk.old) (D.state disk.new) }
-    ensures cause { result ≡ Err Unopened.Failed
-        → Rose (D.state disk.old).faults (D.state disk.new).faults }
+    ensures faults { IsCounted (has_failed result) (D.state disk.old).faults (D.state disk.new).faults }
 {
     match disk.length(LIBRARY) {
-        Err(Failed) => Err(Unopened::Failed),
-        Ok(None) => Err(Unopened::Bad(BadStore::NoLibrary)),
+        Err(Failed) => Err(Undone::Failed),
+        Ok(None) => Err(Undone::Refused(BadStore::NoLibrary)),
         Ok(Some(len)) => { read_front(alloc, disk, len.min(LONGEST_LIBRARY + 1) as usize) }
     }
 }
 
 // The library that the first bytes of its file spell.
-fn read_front<D: Disk>(alloc: Global, disk: &mut D, len: usize) -> Result<Library, Unopened>
+fn read_front<D: Disk>(alloc: Global, disk: &mut D, len: usize) -> Result<Library, Undone<BadStore>>
     requires file { D.tells → (D.state disk.old).files library_name ≢ None }
     requires long { D.tells → len ≡ min (length (bytes_of ((D.state disk.old).files library_name))) (2 ^ 20 + 1) }
     ensures told { D.tells
         → Finds (λ l. library_of (D.state disk.old).files ≡ Ok l) (λ bad. library_of (D.state disk.old).files ≡ Err bad) result }
     ensures sound { IfOk result IsLibrary }
     ensures reads { OnlyReads D.tells (D.state disk.old) (D.state disk.new) }
-    ensures cause { result ≡ Err Unopened.Failed
-        → Rose (D.state disk.old).faults (D.state disk.new).faults }
+    ensures faults { IsCounted (has_failed result) (D.state disk.old).faults (D.state disk.new).faults }
 {
     let Ok(mut front) = vec![in alloc; 0u8; len] else {
-        return Err(Unopened::NoMemory);
+        return Err(Undone::NoMemory);
     };
     read_into(alloc, disk, front.as_mut_slice())
 }
 
-fn read_into<D: Disk>(alloc: Global, disk: &mut D, front: &mut [u8]) -> Result<Library, Unopened>
+fn read_into<D: Disk>(
+    alloc: Global,
+    disk: &mut D,
+    front: &mut [u8],
+) -> Result<Library, Undone<BadStore>>
     requires file { D.tells → (D.state disk.old).files library_name ≢ None }
     requires long { D.tells → length front.old ≡ min (length (bytes_of ((D.state disk.old).files library_name))) (2 ^ 20 + 1) }
     ensures told { D.tells
         → Finds (λ l. library_of (D.state disk.old).files ≡ Ok l) (λ bad. library_of (D.state disk.old).files ≡ Err bad) result }
     ensures sound { IfOk result IsLibrary }
     ensures reads { OnlyReads D.tells (D.state disk.old) (D.state disk.new) }
-    ensures cause { result ≡ Err Unopened.Failed
-        → Rose (D.state disk.old).faults (D.state disk.new).faults }
+    ensures faults { IsCounted (has_failed result) (D.state disk.old).faults (D.state disk.new).faults }
 {
     let Ok(n) = disk.read(LIBRARY, 0, front) else {
-        return Err(Unopened::Failed);
+        return Err(Undone::Failed);
     };
     decode_library(alloc, &front[..n])
 }
 
-fn decode_library(alloc: Global, bytes: &[u8]) -> Result<Library, Unopened>
+fn decode_library(alloc: Global, bytes: &[u8]) -> Result<Library, Undone<BadStore>>
     ensures told { Finds (λ l. read_library (library_in bytes.now) ≡ Ok l) (λ bad. read_library (library_in bytes.now) ≡ Err bad) result }
     ensures sound { IfOk result IsLibrary }
-    ensures cause { result ≢ Err Unopened.Failed }
+    ensures no_fault { has_failed result ≡ false }
 {
     match decode(alloc, bytes) {
         Ok(library) => Ok(library),
-        Err(DecodeFault::Bad(offset)) => Err(Unopened::Bad(BadStore::BadLibrary(offset))),
-        Err(DecodeFault::NoMemory) => Err(Unopened::NoMemory),
+        Err(DecodeFault::Bad(offset)) => Err(Undone::Refused(BadStore::BadLibrary(offset))),
+        Err(DecodeFault::NoMemory) => Err(Undone::NoMemory),
     }
 }
 
 // Opens the images of the media, in their order.
-fn open_images<D: Disk>(alloc: Global, disk: &mut D, library: &Library) -> Result<Images, Unopened>
+fn open_images<D: Disk>(
+    alloc: Global,
+    disk: &mut D,
+    library: &Library,
+) -> Result<Images, Undone<BadStore>>
     requires { IsLibrary library.now }
     ensures told { D.tells → Finds
         (λ images. (media_fault library.now (D.state disk.old).files [] library.now.media ≡ None)
@@ -182,8 +239,7 @@ fn open_images<D: Disk>(alloc: Global, disk: &mut D, library: &Library) -> Resul
         (λ bad. media_fault library.now (D.state disk.old).files [] library.now.media ≡ Some bad) result }
     ensures names { IfOk result (λ images. map image_name images ≡ map medium_entry_name library.now.media) }
     ensures reads { OnlyReads D.tells (D.state disk.old) (D.state disk.new) }
-    ensures cause { result ≡ Err Unopened.Failed
-        → Rose (D.state disk.old).faults (D.state disk.new).faults }
+    ensures faults { IsCounted (has_failed result) (D.state disk.old).faults (D.state disk.new).faults }
 {
     let mut images = Images::new(alloc);
     for medium in library.media.as_slice() {
@@ -199,7 +255,7 @@ fn add_image<D: Disk>(
     library: &Library,
     medium: &Medium,
     images: &mut Images,
-) -> Result<(), Unopened>
+) -> Result<(), Undone<BadStore>>
     requires { IsStoreName medium.now.name }
     ensures told { D.tells → Finds
         (λ _. (fault_behind library.now (D.state disk.old).files (ids_of images.old) medium.now ≡ None)
@@ -207,27 +263,26 @@ fn add_image<D: Disk>(
         (λ bad. fault_behind library.now (D.state disk.old).files (ids_of images.old) medium.now ≡ Some bad) result }
     ensures names { OnOk result (map image_name images.new ≡ map image_name images.old ++ medium.now.name ∷ []) }
     ensures reads { OnlyReads D.tells (D.state disk.old) (D.state disk.new) }
-    ensures cause { result ≡ Err Unopened.Failed
-        → Rose (D.state disk.old).faults (D.state disk.new).faults }
+    ensures faults { IsCounted (has_failed result) (D.state disk.old).faults (D.state disk.new).faults }
 {
     let image = open_medium(alloc, disk, library, medium)?;
     push_image(images, image)
 }
 
 // Appends an image whose identifier no other has.
-fn push_image(images: &mut Images, image: Image) -> Result<(), Unopened>
+fn push_image(images: &mut Images, image: Image) -> Result<(), Undone<BadStore>>
     ensures told { Finds
         (λ _. (same_id_fault (ids_of images.old) image.name image.header.id ≡ None) × (images.new ≡ images.old ++ image ∷ []))
         (λ bad. same_id_fault (ids_of images.old) image.name image.header.id ≡ Some bad) result }
-    ensures cause { result ≢ Err Unopened.Failed }
+    ensures no_fault { has_failed result ≡ false }
 {
     let Image { name, header } = image;
     if has_id(images, header.id) {
-        return Err(Unopened::Bad(BadStore::SameId(name)));
+        return Err(Undone::Refused(BadStore::SameId(name)));
     }
     match images.push(Image { name, header }) {
         Ok(()) => Ok(()),
-        Err(NoMemory) => Err(Unopened::NoMemory),
+        Err(NoMemory) => Err(Undone::NoMemory),
     }
 }
 
@@ -243,7 +298,7 @@ fn open_medium<D: Disk>(
     disk: &mut D,
     library: &Library,
     medium: &Medium,
-) -> Result<Image, Unopened>
+) -> Result<Image, Undone<BadStore>>
     requires { IsStoreName medium.now.name }
     ensures told { D.tells → Finds
         (λ image. (own_fault library.now (D.state disk.old).files medium.now ≡ None)
@@ -251,8 +306,7 @@ fn open_medium<D: Disk>(
         (λ bad. own_fault library.now (D.state disk.old).files medium.now ≡ Some bad) result }
     ensures name { IfOk result (λ image. image.name ≡ medium.now.name) }
     ensures reads { OnlyReads D.tells (D.state disk.old) (D.state disk.new) }
-    ensures cause { result ≡ Err Unopened.Failed
-        → Rose (D.state disk.old).faults (D.state disk.new).faults }
+    ensures faults { IsCounted (has_failed result) (D.state disk.old).faults (D.state disk.new).faults }
 {
     let name = medium.name.bytes();
     match open_image(alloc, disk, name) {
@@ -262,38 +316,38 @@ fn open_medium<D: Disk>(
 }
 
 // Accepts the image of a medium.
-fn accept(library: &Library, image: Image) -> Result<Image, Unopened>
+fn accept(library: &Library, image: Image) -> Result<Image, Undone<BadStore>>
     ensures told { Finds
         (λ accepted. (header_fault library.now image.name image.header ≡ None) × (accepted ≡ image))
         (λ bad. header_fault library.now image.name image.header ≡ Some bad) result }
-    ensures cause { result ≢ Err Unopened.Failed }
+    ensures no_fault { has_failed result ≡ false }
 {
     let Image { name, header } = image;
     if header.image_type.is_differencing() {
-        return Err(Unopened::Bad(BadStore::WrongType(name)));
+        return Err(Undone::Refused(BadStore::WrongType(name)));
     }
     if is_foreign_id(library, header.id) {
-        return Err(Unopened::Bad(BadStore::WrongId(name)));
+        return Err(Undone::Refused(BadStore::WrongId(name)));
     }
     Ok(Image { name, header })
 }
 
 // What is said of a store whose medium of this name was not opened.
-fn fault_of_file(alloc: Global, name: &[u8], fault: OpenFault) -> Unopened
+fn fault_of_file(alloc: Global, name: &[u8], fault: OpenFault) -> Undone<BadStore>
     ensures bad { (l : Library) → (file : Option (List ℕ)) → OpensImage (Err fault) file
         → OnBad (λ bad. file_fault l name.now file ≡ Some bad) result }
-    ensures cause { result ≡ Unopened.Failed → fault ≡ OpenFault.Failed }
+    ensures cause { is_failed result ≡ is_failed_image fault }
 {
     match fault {
-        OpenFault::Failed => Unopened::Failed,
-        OpenFault::NoMemory => Unopened::NoMemory,
+        OpenFault::Failed => Undone::Failed,
+        OpenFault::NoMemory => Undone::NoMemory,
         OpenFault::Missing => match Text::new(alloc, name) {
-            Ok(name) => Unopened::Bad(BadStore::MissingFile(name)),
-            Err(NoMemory) => Unopened::NoMemory,
+            Ok(name) => Undone::Refused(BadStore::MissingFile(name)),
+            Err(NoMemory) => Undone::NoMemory,
         },
         OpenFault::Bad(bad) => match Text::new(alloc, name) {
-            Ok(name) => Unopened::Bad(BadStore::BadImage(name, bad.number())),
-            Err(NoMemory) => Unopened::NoMemory,
+            Ok(name) => Undone::Refused(BadStore::BadImage(name, bad.number())),
+            Err(NoMemory) => Undone::NoMemory,
         },
     }
 }

@@ -1,48 +1,56 @@
 //! What is done with the log before a store is read.
 
 ghost use Rattle.std.specs.Prelude.{◌≡◌, ◌+◌, ◌^◌, ◌≤◌, vec_len, IfOk, IfSome};
-ghost use Rattle.vbm_ports.specs.Counts.{Rose};
+ghost use Rattle.vbm_ports.specs.Counts.{IsCounted};
 ghost use Rattle.vbm_ports.specs.Crash.{Only};
 ghost use Rattle.vbm_ports.specs.Disk.{Passes};
+ghost use Rattle.vbm_intent.specs.Changes.{log_name};
 ghost use Rattle.vbm_intent.specs.Log.{IsLikeRedone};
-ghost use Rattle.vbm_engine.specs.Recovers.{Recovers};
+ghost use Rattle.vbm_engine.specs.Recovers.{IsWaiting, Recovers};
+ghost use Rattle.vbm_engine.specs.Undone.{has_failed};
 
+use crate::undone::Undone;
 use std::alloc::Global;
 use vbm_intent::{Log, Redone, record_size, redo};
-use vbm_ports::{Disk, NoMemory};
+use vbm_ports::{Disk, Failed, NoMemory};
 
-/// How recovery ended.
-#[derive(Drop)]
-pub(crate) enum Recovered {
-    /// The changes of the log are made, and it is shut.
-    Ready(Log),
-    /// The log's gate is open, but no record is behind it that fits the files.
-    BadLog,
-    /// The disk failed.
-    Failed,
-    /// There was no memory for the record.
-    NoMemory,
-}
+/// The log's gate is open, but no record is behind it that fits the files.
+#[derive(Clone, Copy, Debug, PartialEq, Eq)]
+pub(crate) struct BadLog;
 
 /// Makes the changes that wait in the log, and shuts it.
-pub(crate) fn recover<D: Disk>(alloc: Global, disk: &mut D) -> Recovered
+pub(crate) fn recover<D: Disk>(alloc: Global, disk: &mut D) -> Result<Log, Undone<BadLog>>
     ensures recovers { D.tells → Recovers (D.state disk.old) (D.state disk.new) result }
     ensures any_moment { D.tells → Only (D.state disk.old).files (D.state disk.old).may_leave
         → Passes (D.state disk.old) (D.state disk.new) (IsLikeRedone (D.state disk.old).files) }
-    ensures faults { (D.state disk.old).faults ≤ (D.state disk.new).faults }
-    ensures cause { result ≡ Recovered.Failed
-        → Rose (D.state disk.old).faults (D.state disk.new).faults }
+    ensures faults { IsCounted (has_failed result) (D.state disk.old).faults (D.state disk.new).faults }
 {
-    let Ok(size) = record_size(disk) else {
-        return Recovered::Failed;
-    };
+    match record_size(disk) {
+        Ok(size) => recover_record(alloc, disk, size),
+        Err(Failed) => Err(Undone::Failed),
+    }
+}
+
+/// The same, where this is the size of the record that waits, if one does.
+pub(crate) fn recover_record<D: Disk>(
+    alloc: Global,
+    disk: &mut D,
+    size: Option<u32>,
+) -> Result<Log, Undone<BadLog>>
+    requires told { D.tells → IsWaiting size ((D.state disk.old).files log_name) }
+    requires bound { IfSome size (λ n. n ≤ 2 ^ 25) }
+    ensures recovers { D.tells → Recovers (D.state disk.old) (D.state disk.new) result }
+    ensures any_moment { D.tells → Only (D.state disk.old).files (D.state disk.old).may_leave
+        → Passes (D.state disk.old) (D.state disk.new) (IsLikeRedone (D.state disk.old).files) }
+    ensures faults { IsCounted (has_failed result) (D.state disk.old).faults (D.state disk.new).faults }
+{
     let Ok(mut room) = room_for(alloc, size) else {
-        return Recovered::NoMemory;
+        return Err(Undone::NoMemory);
     };
     match redo(disk, room.as_mut_slice()) {
-        Redone::Done(log) => Recovered::Ready(log),
-        Redone::BadLog => Recovered::BadLog,
-        Redone::Failed => Recovered::Failed,
+        Redone::Done(log) => Ok(log),
+        Redone::BadLog => Err(Undone::Refused(BadLog)),
+        Redone::Failed => Err(Undone::Failed),
     }
 }
 

@@ -3,7 +3,7 @@
 ghost use Rattle.std.specs.Prelude.{◌≡◌, false, None, Ok, IfOk, IsTrue, IsFalse};
 ghost use Rattle.std.specs.List.{list_any};
 ghost use Rattle.std.specs.Str.{bytes_eq};
-ghost use Rattle.vbm_ports.specs.Counts.{Rose};
+ghost use Rattle.vbm_ports.specs.Counts.{IsCounted};
 ghost use Rattle.vbm_ports.specs.Disk.{OnlyReads};
 ghost use Rattle.vbm_ports.specs.Files.{Files};
 ghost use Rattle.vbm_ports.specs.Names.{is_medium_name};
@@ -16,7 +16,7 @@ ghost use Rattle.vbm_engine.specs.Plans.{library_changes};
 ghost use Rattle.vbm_engine.specs.Creates.{new_entry};
 ghost use Rattle.vbm_engine.specs.Registers.{image_checks};
 ghost use Rattle.vbm_engine.specs.Serves.{image_name, IsSoundEngine, Holds, FitsDisk};
-ghost use Rattle.vbm_engine.specs.Steps.{Decides, DecidesSound, OnFailed};
+ghost use Rattle.vbm_engine.specs.Steps.{Decides, DecidesSound, deciding_failed};
 
 use crate::engine::{Decided, Engine, Image, Images};
 use crate::foreign::is_foreign_id;
@@ -116,7 +116,7 @@ fn add_image(alloc: Global, engine: &Engine, image: Image) -> Decided
     ensures decides { (files : Files) → Holds engine.now.library engine.now.images files
         → IsRead (files image.name) (Ok image.header) → Decides files engine.now (OpenMedium image.name) result }
     ensures sound { DecidesSound result }
-    ensures cause { OnFailed result ⊥ }
+    ensures no_fault { deciding_failed result ≡ false }
 {
     let id = id_of(&image);
     match add_entry(alloc, engine, image) {
@@ -138,7 +138,7 @@ fn decide_image(alloc: Global, engine: &Engine, image: Image) -> Decided
     ensures decides { (files : Files) → Holds engine.now.library engine.now.images files
         → IsRead (files image.name) (Ok image.header) → Decides files engine.now (OpenMedium image.name) result }
     ensures sound { DecidesSound result }
-    ensures cause { OnFailed result ⊥ }
+    ensures no_fault { deciding_failed result ≡ false }
 {
     match image_refusal(engine, &image.header) {
         Some(refusal) => Decided::Stay(Answer::Refused(refusal)),
@@ -155,7 +155,7 @@ fn decide_file<D: Disk>(alloc: Global, engine: &Engine, disk: &mut D, name: &[u8
     ensures decides { D.tells → Decides (D.state disk.old).files engine.now (OpenMedium name.now) result }
     ensures sound { DecidesSound result }
     ensures reads { OnlyReads D.tells (D.state disk.old) (D.state disk.new) }
-    ensures cause { OnFailed result (Rose (D.state disk.old).faults (D.state disk.new).faults) }
+    ensures faults { IsCounted (deciding_failed result) (D.state disk.old).faults (D.state disk.new).faults }
 {
     match open_image(alloc, disk, name) {
         Ok(image) => decide_image(alloc, engine, image),
@@ -181,7 +181,7 @@ pub(crate) fn decide_open<D: Disk>(
     ensures decides { D.tells → Decides (D.state disk.old).files engine.now (OpenMedium name.now) result }
     ensures sound { DecidesSound result }
     ensures reads { OnlyReads D.tells (D.state disk.old) (D.state disk.new) }
-    ensures cause { OnFailed result (Rose (D.state disk.old).faults (D.state disk.new).faults) }
+    ensures faults { IsCounted (deciding_failed result) (D.state disk.old).faults (D.state disk.new).faults }
 {
     match engine.library.media.find(name) {
         Some(_) => Decided::Stay(Answer::Refused(Refusal::NameTaken)),

@@ -1,15 +1,16 @@
 //! Steps of an engine.
 
-ghost use Rattle.std.specs.Prelude.{◌≤◌, Ok, OnOk, OnErr};
-ghost use Rattle.vbm_ports.specs.Counts.{Rose};
+ghost use Rattle.std.specs.Prelude.{◌≤◌, Ok, OnOk, OnErr, ◌≡◌};
+ghost use Rattle.vbm_ports.specs.Counts.{Rose, IsCounted};
 ghost use Rattle.vbm_ports.specs.Crash.{Only};
 ghost use Rattle.vbm_ports.specs.Disk.{Passes, OnlyReads};
 ghost use Rattle.vbm_world.specs.World.{off};
 ghost use Rattle.vbm_world.specs.Loose.{Unsettled};
 ghost use Rattle.vbm_world.specs.Texts.{IsSpelled};
 ghost use Rattle.vbm_registry.specs.Stands.{Stands};
+ghost use Rattle.vbm_engine.specs.Kept.{AreKept};
 ghost use Rattle.vbm_engine.specs.Serves.{serves, IsSoundEngine, FitsDisk, IsReady, StandsLoosely};
-ghost use Rattle.vbm_engine.specs.Steps.{Hands, HandsSound, IsInStep, OnBroken, Decides, DecidesSound, OnFailed};
+ghost use Rattle.vbm_engine.specs.Steps.{Hands, HandsSound, IsInStep, step_failed, Decides, DecidesSound, deciding_failed};
 
 use crate::ask::{decide_list, decide_show};
 use crate::close::decide_close;
@@ -33,7 +34,7 @@ pub(crate) fn decide<D: Disk>(
     ensures decides { D.tells → Decides (D.state disk.old).files engine.now command.now result }
     ensures sound { DecidesSound result }
     ensures reads { OnlyReads D.tells (D.state disk.old) (D.state disk.new) }
-    ensures cause { OnFailed result (Rose (D.state disk.old).faults (D.state disk.new).faults) }
+    ensures faults { IsCounted (deciding_failed result) (D.state disk.old).faults (D.state disk.new).faults }
 {
     match command {
         Command::CreateMedium {
@@ -61,8 +62,7 @@ impl Engine {
         ensures sound { HandsSound result }
         ensures any_moment { D.tells → (u : Unsettled) → IsReady self (D.state disk.old) u
             → Passes (D.state disk.old) (D.state disk.new) (IsInStep (serves self (D.state disk.old).files) command.now u) }
-        ensures faults { (D.state disk.old).faults ≤ (D.state disk.new).faults }
-        ensures cause { OnBroken result (Rose (D.state disk.old).faults (D.state disk.new).faults) }
+        ensures faults { IsCounted (step_failed result) (D.state disk.old).faults (D.state disk.new).faults }
     {
         let decided = decide(alloc, &self, disk, command);
         match decided {
@@ -100,8 +100,11 @@ impl Engine {
             → OnOk result (Stands (D.state disk.new).files (Ok (off (serves self (D.state disk.old).files)))) }
         ensures any_moment { D.tells → (u : Unsettled) → IsReady self (D.state disk.old) u
             → Passes (D.state disk.old) (D.state disk.new) (StandsLoosely (off (serves self (D.state disk.old).files)) u) }
-        ensures reads { OnlyReads D.tells (D.state disk.old) (D.state disk.new) }
+        ensures kept { D.tells
+            → OnOk result (AreKept self.library (D.state disk.old).files self.library (D.state disk.new).files) }
+        ensures faults { (D.state disk.old).faults ≤ (D.state disk.new).faults }
         ensures cause { OnErr result (Rose (D.state disk.old).faults (D.state disk.new).faults) }
+        ensures no_fault { OnOk result ((D.state disk.new).faults ≡ (D.state disk.old).faults) }
     {
         disk.sync()
     }

@@ -10,5 +10,6 @@ abbrev pub invariant-loop-medium : goal.invariant-loop-medium
 invariant-loop-medium g l = record {
   told : g.D.Disk.tells → Opening l.library (g.D.Disk.state l.fn.disk).files l.medium-index l.images;
   names : map image_name l.images ≡ map medium_entry_name (take l.medium-index l.library.media);
+  no_fault : (g.D.Disk.state l.disk).faults ≡ (g.D.Disk.state l.fn.disk).faults;
   reads : OnlyReads g.D.Disk.tells (g.D.Disk.state l.fn.disk) (g.D.Disk.state l.disk);
 }

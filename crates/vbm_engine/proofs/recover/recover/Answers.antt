@@ -1,8 +1,5 @@
 use Rattle.vbm_intent.proofs.Redos.{after_reads}
 use Rattle.vbm_engine.proofs.recover.recover.Goals as goal
 
-pub returns-in-Done-clause-any_moment : goal.returns-in-Done-clause-any_moment
-returns-in-Done-clause-any_moment g c = λ told only. after_reads _ told _ _ c.record_size.ensures.reads _ (c.redo.ensures.any_moment told) only
-
-pub returns-in-BadLog-clause-any_moment : goal.returns-in-BadLog-clause-any_moment
-returns-in-BadLog-clause-any_moment g c = λ told only. after_reads _ told _ _ c.record_size.ensures.reads _ (c.redo.ensures.any_moment told) only
+pub returns-in-Ok-clause-any_moment : goal.returns-in-Ok-clause-any_moment
+returns-in-Ok-clause-any_moment g c = λ told only. after_reads _ told _ _ c.record_size.ensures.reads _ (c.recover_record.ensures.any_moment told) only

@@ -5,6 +5,7 @@ use Rattle.vbm_world.specs.World.{off}
 use Rattle.vbm_registry.specs.Stands.{Stands}
 use Rattle.vbm_engine.specs.Serves.{serves}
 use Rattle.vbm_engine.proofs.Readiness.{fits_stands, ready_stands}
+use Rattle.vbm_engine.proofs.Turning.{kept_read}
 use Rattle.vbm_engine.proofs.engine.Engine.close.Goals as goal
 
 pub returns-clause-stands : goal.returns-clause-stands
@@ -19,3 +20,7 @@ pub returns-clause-any_moment : goal.returns-clause-any_moment
 returns-clause-any_moment g c told u ready =
     let old = g.D.Disk.state c.args.disk.now in
     Passes-weaker old (g.D.Disk.state c.sync.new.self) _ _ c.sync.ensures.reads.time (ready_stands c.args.self old u c.requires.sound ready)
+
+pub returns-clause-kept : goal.returns-clause-kept
+returns-clause-kept g c told =
+    on_ok_weaker c.sync.result (λ settled. kept_read told c.args.self c.sync.ensures.reads c.requires.sound) (c.sync.ensures.settled told)
