@@ -13,7 +13,7 @@ use Rattle.vbm_intent.specs.Changes.{of_file, after, changed, FitsFile, Fits}
 use Rattle.vbm_intent.specs.Plan.{body_size}
 use Rattle.vbm_registry.specs.declared.media.Medium.{Medium}
 use Rattle.vbm_registry.specs.declared.library.Library.{Library}
-use Rattle.vbm_registry.specs.Library.{library_name, medium_entry_name, without_entry, IsLibrary}
+use Rattle.vbm_registry.specs.Library.{library_name, medium_entry_name, without_entry, IsLibrary, IsQuiet}
 use Rattle.vbm_registry.specs.Stands.{none_changed, medium_in, shelf_of, shelved_file, world_with, library_file, read_library, IsOwn}
 use Rattle.vbm_registry.proofs.Again.{read_again}
 use Rattle.vbm_registry.proofs.Stores.{SameBesides, same_others, header_frame, store_without, library_without}
@@ -86,7 +86,12 @@ images_less e name sound =
     ∙ ap (without (λ n. n) name) sound.images
     ∙ sym (without_map medium_entry_name medium_entry_name (λ n. n) (λ x. refl) name e.library.media)
 
+-- without a medium a library is as quiet
+pub quiet_less : (l : Library) (name : Name) → IsQuiet l → IsQuiet (without_entry l name)
+quiet_less l name quiet = record { making = quiet.making; merging = quiet.merging }
+
 module _ (e : Engine) (files : Files) (name : Name) (delete : Bool) (holds : Holds e.library e.images files) (lib : IsLibrary e.library)
+    (quiet : IsQuiet e.library)
     (named : IsTrue (is_medium_name name)) where
   abbrev now_library : Library
   now_library = without_entry e.library name
@@ -116,7 +121,7 @@ module _ (e : Engine) (files : Files) (name : Name) (delete : Bool) (holds : Hol
       let same = same_others e.library name files now lib now_others in
       record {
         read = ap library_file (library_made (removal name delete) now_library files apart)
-            ∙ ap read_library (read_again now_library (library_without e.library name lib));
+            ∙ ap read_library (read_again now_library (library_without e.library name lib) (quiet_less e.library name quiet));
         store = store_without e.library files now name holds.store same;
         headers = ap (without image_name name) holds.headers
             ∙ sym (without_map (image_in files) medium_entry_name image_name (λ m. refl) name e.library.media)
@@ -145,7 +150,7 @@ module _ (e : Engine) (files : Files) (name : Name) (delete : Bool) (holds : Hol
     now_by =
         let w = world_with none_changed e.library files in
         rw (medium_of_with none_changed e.library files name, is) (ap (λ (v : World). (Done, v))
-        (world_without none_changed e.library files now name lib now_others named
+        (world_without none_changed e.library files now name lib quiet now_others named
         ∙ ap (λ s. record w { media = without medium_name name w.media; shelf = s }) now_shelf))
 
     closes_some : Turns files e (CloseMedium name delete) now_library (without image_name name e.images) plan Done

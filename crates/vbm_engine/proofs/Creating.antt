@@ -14,6 +14,7 @@ use Rattle.vbm_volume.specs.Made.{made_image}
 use Rattle.vbm_volume.specs.declared.flat.Variant.TheVariants.{Standard}
 use Rattle.vbm_volume.proofs.NewImages.{made_accepted, made_flat}
 use Rattle.vbm_ids.specs.declared.Kind.TheVariants as kinds
+use Rattle.vbm_ids.specs.declared.TheConstants.{NUMBER_LIMIT}
 use Rattle.vbm_ids.specs.Identifier.{identifier_of, is_foreign}
 use Rattle.vbm_intent.specs.declared.change.Change.{Change}
 use Rattle.vbm_intent.specs.Changes.{of_file, changed}
@@ -23,12 +24,13 @@ use Rattle.vbm_world.specs.declared.command.Answer.TheVariants.{Id}
 use Rattle.vbm_world.specs.declared.command.Size.{Size}
 use Rattle.vbm_named.specs.Names.{Name, has_name, put_by}
 use Rattle.vbm_world.specs.World.{World, medium_name, zero_disk}
+use Rattle.vbm_world.specs.declared.refusals.TheConstants.{MEDIA_LIMIT}
 use Rattle.vbm_world.specs.Refusals.{capacity_of, is_bad_size, first_refusal, create_checks}
 use Rattle.vbm_world.specs.Step.{Outcome, step_of, made_medium, refused_or}
 use Rattle.vbm_named.proofs.Lists.{name_sym, put_map}
 use Rattle.vbm_registry.specs.declared.media.Medium.{Medium}
 use Rattle.vbm_registry.specs.declared.library.Library.{Library}
-use Rattle.vbm_registry.specs.Library.{library_name, medium_entry_name, IsLibrary}
+use Rattle.vbm_registry.specs.Library.{library_name, medium_entry_name, IsLibrary, IsQuiet}
 use Rattle.vbm_registry.specs.Stands.{shelved_file, header_in, medium_in, shelf_of, world_with, none_changed, read_library, library_file, library_of, id_in, IsStore}
 use Rattle.vbm_registry.proofs.Again.{read_again}
 use Rattle.vbm_registry.proofs.Stores.{SameFiles, SameBesides, same_media, header_frame, own_of_file, header_of_file, store_put, library_put}
@@ -80,13 +82,13 @@ same_unless : (a b c d e f : Bool) → (a ≡ false → b ≡ c) → first_check
 same_unless true b c d e f same = refl
 same_unless false b c d e f same = ap (λ x. first_check false x d e f) (same refl)
 
-pub refusal_is : (l : Library) (files : Files) (name : Name) (capacity : ℕ) → IsLibrary l → IsTrue (is_medium_name name)
-    → first_check (has_name medium_entry_name name l.media) (is_some (files name)) (is_bad_size capacity) (nat_le 1024 (length l.media)) (nat_le (2 ^ 62) l.next)
+pub refusal_is : (l : Library) (files : Files) (name : Name) (capacity : ℕ) → IsQuiet l → IsTrue (is_medium_name name)
+    → first_check (has_name medium_entry_name name l.media) (is_some (files name)) (is_bad_size capacity) (nat_le MEDIA_LIMIT (length l.media)) (nat_le NUMBER_LIMIT l.next)
     ≡ first_refusal (create_checks (world_with none_changed l files) name capacity)
 unfolding world_with
-refusal_is l files name capacity is named =
+refusal_is l files name capacity quiet named =
     let shelf : has_name medium_entry_name name l.media ≡ false → is_some (files name) ≡ is_some (shelf_of l files name) =
-    λ none. sym (ap is_some (on_shelf l files name named none is.making) ∙ some_map shelved_file (files name)) in
+    λ none. sym (ap is_some (on_shelf l files name named none quiet.making) ∙ some_map shelved_file (files name)) in
     rw (is_medium_with none_changed l files name, length-map l.media (medium_in none_changed files))
     (same_unless (has_name medium_entry_name name l.media) _ _ _ _ _ shelf)
 
@@ -96,6 +98,9 @@ pub made_is_library : (l : Library) (name : Name) (capacity : ℕ) → IsLibrary
     → IsLibrary (made_library l name)
 made_is_library l name capacity is named can =
     library_put l (new_entry name) (l.next + 1) is (record { name = named; mode = refl }) can.new can.room (omega (arith, can.next))
+
+pub made_is_quiet : (l : Library) (name : Name) → IsQuiet l → IsQuiet (made_library l name)
+made_is_quiet l name quiet = record { making = quiet.making; merging = quiet.merging }
 
 pub made_images : (e : Engine) (name : Name) (h : Header) → IsSoundEngine e
     → map image_name (put_by image_name (record { name = name; header = h }) e.images) ≡ map medium_entry_name (made_library e.library name).media
@@ -138,7 +143,7 @@ module _ (files : Files) (e : Engine) (name : Name) (size : Size) (h : Header) (
 
   library_now : library_of now ≡ Ok made
   library_now = ap library_file (library_made (image_changes name h) made files alone)
-      ∙ ap read_library (read_again made (made_is_library l name (capacity_of size) sound.library named can))
+      ∙ ap read_library (read_again made (made_is_library l name (capacity_of size) sound.library named can) (made_is_quiet l name sound.quiet))
 
   file_now : now name ≡ Some (made_image h)
   file_now = library_frame (image_changes name h) made files name (medium_not_library name named) ∙ image_made h medium.new name files medium.dynamic absent
@@ -156,10 +161,10 @@ module _ (files : Files) (e : Engine) (name : Name) (size : Size) (h : Header) (
   header_now = header_of_file now name (made_image h) h file_now accepted_now
 
   new_known : is_foreign l.seed (l.next + 1) h.id ≡ false
-  new_known = ap (is_foreign l.seed (l.next + 1)) medium.id ∙ drawn_known l.seed sound.library.seed l.next can.next
+  new_known = ap (is_foreign l.seed (l.next + 1)) medium.id ∙ drawn_known l.seed sound.library.seed.long l.next can.next
 
   new_foreign : is_foreign l.seed l.next (id_in now (new_entry name)) ≡ true
-  new_foreign = ap (is_foreign l.seed l.next) (ap (λ (x : Header). x.id) header_now ∙ medium.id) ∙ drawn_foreign l.seed sound.library.seed l.next can.next
+  new_foreign = ap (is_foreign l.seed l.next) (ap (λ (x : Header). x.id) header_now ∙ medium.id) ∙ drawn_foreign l.seed sound.library.seed.long l.next can.next
 
   same_files : SameFiles files now l.media
   same_files = same_media l name files now sound.library besides can.new
@@ -188,7 +193,7 @@ module _ (files : Files) (e : Engine) (name : Name) (size : Size) (h : Header) (
 
   no_shelf : (world_with none_changed l files).shelf name ≡ None
   unfolding world_with
-  no_shelf = on_shelf l files name named can.new sound.library.making ∙ ap (option_map shelved_file) absent
+  no_shelf = on_shelf l files name named can.new sound.quiet.making ∙ ap (option_map shelved_file) absent
 
   world_now : world_with none_changed made now ≡ (let w = world_with none_changed l files in
       record w { next = l.next + 1; media = put_by medium_name (made_medium w name (capacity_of size) Standard) w.media })
@@ -247,6 +252,7 @@ pub decided_sound : (e : Engine) (name : Name) (capacity : ℕ) (d : Decided) �
     → Creates e name capacity d → DecidesSound d
 decided_sound e name capacity (decided.Stay a) sound named can creates = absurd creates
 decided_sound e name capacity (decided.Turn library images p a) sound named can creates =
-    rw (creates.made, creates.placed) (made_is_library e.library name capacity sound.library named can, made_images e name creates.header sound)
+    rw (creates.made, creates.placed)
+    (made_is_library e.library name capacity sound.library named can, made_is_quiet e.library name sound.quiet, made_images e name creates.header sound)
 decided_sound e name capacity decided.NoMemory sound named can creates = absurd creates
 decided_sound e name capacity decided.Failed sound named can creates = absurd creates

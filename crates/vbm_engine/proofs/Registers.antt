@@ -16,7 +16,7 @@ use Rattle.vbm_intent.specs.declared.change.Change.{Change}
 use Rattle.vbm_intent.specs.Changes.{changed}
 use Rattle.vbm_registry.specs.declared.media.Medium.{Medium}
 use Rattle.vbm_registry.specs.declared.library.Library.{Library}
-use Rattle.vbm_registry.specs.Library.{library_name, medium_entry_name, with_entry, IsLibrary}
+use Rattle.vbm_registry.specs.Library.{library_name, medium_entry_name, with_entry, IsLibrary, IsQuiet}
 use Rattle.vbm_registry.specs.Stands.{none_changed, header_in, medium_in, id_in, shelved_file, shelved_image, world_with, library_file, read_library}
 use Rattle.vbm_registry.proofs.Again.{read_again}
 use Rattle.vbm_registry.proofs.Stores.{SameBesides, SameFiles, same_media, header_frame, header_of_file, own_of_file, store_put, library_put}
@@ -24,6 +24,7 @@ use Rattle.vbm_registry.proofs.Worlds.{is_medium_with, has_id_with, on_shelf, sh
 use Rattle.vbm_named.specs.Names.{Name, find_by, has_name, put_by}
 use Rattle.vbm_world.specs.World.{World, medium_id, medium_name, with_shelved}
 use Rattle.vbm_ids.specs.Identifier.{is_foreign, has_id}
+use Rattle.vbm_world.specs.declared.refusals.TheConstants.{MEDIA_LIMIT}
 use Rattle.vbm_world.specs.Refusals.{first_refusal, file_checks, is_full}
 use Rattle.vbm_world.specs.Step.{Outcome, refused_or, opened, step_of}
 use Rattle.vbm_world.specs.Loose.{all_settled, is_refused}
@@ -55,16 +56,16 @@ passes false refusal o e = (refl, e)
 record IsWelcome (l : Library) (images : List Image) (h : Header) : Type 0 where
   new : list_any (λ (i : Image). bytes_eq i.header.id h.id) images ≡ false
   known : is_foreign l.seed l.next h.id ≡ false
-  room : length l.media < 1024
+  room : length l.media < MEDIA_LIMIT
   whole : is_differencing h.image_type ≡ false
 
 welcome : (l : Library) (images : List Image) (h : Header) → first_refusal (image_checks l images h) ≡ None → IsWelcome l images h
 welcome l images h allowed =
     let new = passes (list_any (λ (i : Image). bytes_eq i.header.id h.id) images) _ _ allowed in
     let known = passes (is_foreign l.seed l.next h.id) _ _ new.1 in
-    let room = passes (nat_le 1024 (length l.media)) _ _ known.1 in
+    let room = passes (nat_le MEDIA_LIMIT (length l.media)) _ _ known.1 in
     let whole = passes (is_differencing h.image_type) _ _ room.1 in
-    record { new = new.0; known = known.0; room = leb-false 1024 (length l.media) room.0; whole = whole.0 }
+    record { new = new.0; known = known.0; room = leb-false MEDIA_LIMIT (length l.media) room.0; whole = whole.0 }
 
 -- a file that is read
 record IsFile (files : Files) (name : Name) (read : Result Header BadImage) : Type 0 where
@@ -101,12 +102,16 @@ library_more e h name allowed lib named free =
     library_put e.library (new_entry name) e.library.next lib (record { name = named; mode = refl }) free
     (welcome e.library e.images h allowed).room lib.next
 
-module _ (e : Engine) (files : Files) (name : Name) (holds : Holds e.library e.images files) (lib : IsLibrary e.library)
+-- with one medium more it is as quiet
+pub quiet_more : (e : Engine) (name : Name) → IsQuiet e.library → IsQuiet (with_entry e.library (new_entry name))
+quiet_more e name quiet = record { making = quiet.making; merging = quiet.merging }
+
+module _ (e : Engine) (files : Files) (name : Name) (holds : Holds e.library e.images files) (lib : IsLibrary e.library) (quiet : IsQuiet e.library)
     (named : IsTrue (is_medium_name name)) (free : has_name medium_entry_name name e.library.media ≡ false) where
   opens : step_of (serves e files) (OpenMedium name) 0 ≡ (let shelved = option_map shelved_file (files name) in
       refused_or (serves e files) (first_refusal (file_checks (serves e files) shelved)) (opened (serves e files) name shelved))
   unfolding world_with
-  opens = rw (is_medium_with none_changed e.library files name ∙ free, on_shelf e.library files name named free lib.making) refl
+  opens = rw (is_medium_with none_changed e.library files name ∙ free, on_shelf e.library files name named free quiet.making) refl
 
   pub opens_missing : files name ≡ None → Decides files e (OpenMedium name) (decided.Stay (Refused NoSuchFile))
   opens_missing none = refuses e files name NoSuchFile (sym (opens ∙ rw none refl))
@@ -123,9 +128,9 @@ module _ (e : Engine) (files : Files) (name : Name) (holds : Holds e.library e.i
       ∙ sym (ap (list_any (λ (i : Image). bytes_eq i.header.id id)) holds.headers
       ∙ any_map (image_in files) (λ (i : Image). bytes_eq i.header.id id) e.library.media)
 
-  full_here : is_full (serves e files) ≡ nat_le 1024 (length e.library.media)
+  full_here : is_full (serves e files) ≡ nat_le MEDIA_LIMIT (length e.library.media)
   unfolding world_with
-  full_here = ap (nat_le 1024) (length-map e.library.media (medium_in none_changed files))
+  full_here = ap (nat_le MEDIA_LIMIT) (length-map e.library.media (medium_in none_changed files))
 
   module _ (h : Header) (read : IsRead (files name) (Ok h)) where
     f : IsFile files name (Ok h)
@@ -173,7 +178,7 @@ module _ (e : Engine) (files : Files) (name : Name) (holds : Holds e.library e.i
 
       more_holds : Holds more (put_by image_name (record { name = name; header = h }) e.images) now
       more_holds = record {
-        read = ap library_file (library_made [] more files refl) ∙ ap read_library (read_again more (library_more e h name allowed lib named free));
+        read = ap library_file (library_made [] more files refl) ∙ ap read_library (read_again more (library_more e h name allowed lib named free) (quiet_more e name quiet));
         store = store_put e.library files now (new_entry name) e.library.next holds.store (omega arith) same
             (own_of_file e.library now (new_entry name) f.file h here f.is is_welcome.whole is_welcome.known)
             (rw (id_in, header) (sym (has_id_with none_changed e.library files h.id) ∙ has_id_here h.id ∙ is_welcome.new));

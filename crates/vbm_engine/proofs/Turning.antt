@@ -17,7 +17,7 @@ use Rattle.vbm_world.specs.Step.{Outcome, step_of}
 use Rattle.vbm_world.specs.Loose.{Unsettled, unsettled_after, IsLoosely}
 use Rattle.vbm_world.proofs.Worlds.{loosely_weaker}
 use Rattle.vbm_registry.specs.declared.library.Library.{Library}
-use Rattle.vbm_registry.specs.Library.{IsLibrary}
+use Rattle.vbm_registry.specs.Library.{IsLibrary, IsQuiet}
 use Rattle.vbm_registry.specs.Stands.{world_with, none_changed}
 use Rattle.vbm_registry.proofs.Stores.{world_frame}
 use Rattle.vbm_engine.specs.declared.engine.Engine.{Engine}
@@ -79,8 +79,7 @@ module _ {tells : Type 0} (told : tells) (e : Engine) {old new : DiskState} (rea
       ready = λ u was. subst (IsReady e new) (sym (decides.1 u)) (ready_read u was);
       kept = kept_read;
       tidy = record {
-        making = sound.library.making;
-        merging = sound.library.merging;
+        quiet = sound.quiet;
         strays = λ name inner unlisted none. ap (λ (f : Files). f name) (reads.files told) ∙ none;
       };
     }
@@ -91,7 +90,7 @@ inner_not_log name inner e = let t : false ≡ true = ap is_inner_name (sym e) �
 
 module _ {tells : Type 0} {e : Engine} {c : Command} {library : Library} {images : List Image} {plan : List Change} {a : Answer}
     {old mid : DiskState} (told : tells) (reads : OnlyReads tells old mid) (turns : Turns old.files e c library images plan a)
-    (lib : IsLibrary library) where
+    (lib : IsLibrary library) (quiet : IsQuiet library) where
   -- the files with the plan's changes
   abbrev to : Files
   to = changed plan old.files
@@ -131,8 +130,7 @@ module _ {tells : Type 0} {e : Engine} {c : Command} {library : Library} {images
         ready = λ u was. ready.1 (unsettled_after u (serves e old.files) c);
         kept = kept_besides e.library library old.files to new.files sound.library same turns.kept;
         tidy = record {
-          making = lib.making;
-          merging = lib.merging;
+          quiet = quiet;
           strays = λ name inner unlisted none. same name (inner_not_log name inner) ∙ turns.strays name inner unlisted none;
         };
       }

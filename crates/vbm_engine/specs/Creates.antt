@@ -1,9 +1,10 @@
 -- What the making of a medium is made of.
-use Rattle.std.specs.Prelude.{◌≡◌, ℕ, ◌+◌, ◌<◌, ◌^◌, Bool, List, [], ◌∷◌, ◌++◌, length, Option, false}
+use Rattle.std.specs.Prelude.{◌≡◌, ℕ, ◌+◌, ◌<◌, Bool, List, [], ◌∷◌, ◌++◌, length, Option, false}
 use Rattle.vbm_header.specs.declared.Header.{Header}
 use Rattle.vbm_header.specs.declared.ImageType.TheVariants.{Dynamic}
 use Rattle.vbm_volume.specs.Made.{IsNewHeader}
 use Rattle.vbm_ids.specs.declared.Kind.TheVariants as kinds
+use Rattle.vbm_ids.specs.declared.TheConstants.{NUMBER_LIMIT}
 use Rattle.vbm_ids.specs.Identifier.{identifier_of}
 use Rattle.vbm_modes.specs.declared.Mode.TheVariants.{Normal}
 use Rattle.vbm_intent.specs.declared.change.Change.{Change}
@@ -13,6 +14,7 @@ use Rattle.vbm_world.specs.declared.command.Refusal.{Refusal}
 use Rattle.vbm_world.specs.declared.command.Refusal.TheVariants.{NameTaken, FileExists, BadSize, Full, IdsSpent}
 use Rattle.vbm_world.specs.declared.command.Which.TheVariants.{Media}
 use Rattle.vbm_named.specs.Names.{Name, has_name, put_by}
+use Rattle.vbm_world.specs.declared.refusals.TheConstants.{MEDIA_LIMIT}
 use Rattle.vbm_world.specs.Refusals.{first_refusal, is_bad_size}
 use Rattle.vbm_registry.specs.declared.media.Medium.{Medium}
 use Rattle.vbm_registry.specs.declared.library.Library.{Library}
@@ -33,8 +35,8 @@ first_check taken there bad_size full spent =
 pub record CanCreate (l : Library) (name : Name) (capacity : ℕ) : Type 0 where
   pub new : has_name medium_entry_name name l.media ≡ false
   pub size : is_bad_size capacity ≡ false
-  pub room : length l.media < 1024
-  pub next : l.next < 2 ^ 62
+  pub room : length l.media < MEDIA_LIMIT
+  pub next : l.next < NUMBER_LIMIT
 
 -- a normal medium
 abbrev pub new_entry : Name → Medium

@@ -7,6 +7,7 @@ use Rattle.vbm_header.specs.Header.{is_differencing}
 use Rattle.vbm_world.specs.declared.command.Refusal.TheVariants.{DuplicateId, ForeignId, Full, BrokenChain}
 use Rattle.vbm_world.specs.declared.command.Which.TheVariants.{Media}
 use Rattle.vbm_ids.specs.Identifier.{is_foreign}
+use Rattle.vbm_world.specs.declared.refusals.TheConstants.{MEDIA_LIMIT}
 use Rattle.vbm_world.specs.Refusals.{Check}
 use Rattle.vbm_registry.specs.declared.library.Library.{Library}
 use Rattle.vbm_engine.specs.declared.engine.Image.{Image}
@@ -16,6 +17,6 @@ abbrev pub image_checks : Library → List Image → Header → List Check
 image_checks l images h =
     (list_any (λ (i : Image). bytes_eq i.header.id h.id) images, DuplicateId)
     ∷ (is_foreign l.seed l.next h.id, ForeignId)
-    ∷ (nat_le 1024 (length l.media), Full Media)
+    ∷ (nat_le MEDIA_LIMIT (length l.media), Full Media)
     ∷ (is_differencing h.image_type, BrokenChain 0)
     ∷ []

@@ -7,7 +7,7 @@ use Rattle.vbm_world.specs.World.{World, off}
 use Rattle.vbm_world.specs.Loose.{Unsettled, IsLoosely}
 use Rattle.vbm_registry.specs.declared.media.Medium.{Medium}
 use Rattle.vbm_registry.specs.declared.library.Library.{Library}
-use Rattle.vbm_registry.specs.Library.{medium_entry_name, IsLibrary}
+use Rattle.vbm_registry.specs.Library.{medium_entry_name, IsLibrary, IsQuiet}
 use Rattle.vbm_registry.specs.Stands.{Stands, IsStore, world_with, none_changed, library_of, header_in}
 use Rattle.vbm_engine.specs.declared.engine.Engine.{Engine}
 use Rattle.vbm_engine.specs.declared.engine.Image.{Image}
@@ -24,9 +24,10 @@ image_name image = image.name
 abbrev pub image_in : Files → Medium → Image
 image_in files m = record { name = m.name; header = header_in files m.name }
 
--- what holds of an engine by itself: a library with its rules, and an image for each medium
+-- What holds of an engine by itself: a library with its rules, in which nothing is being made or merged, and an image for each medium.
 pub record IsSoundEngine (e : Engine) : Type 0 where
   pub library : IsLibrary e.library
+  pub quiet : IsQuiet e.library
   pub images : map image_name e.images ≡ map medium_entry_name e.library.media
 
 -- the engine's library and images are those of the files

@@ -1,5 +1,5 @@
 -- What a step does, a crash in it included, and what a command owes for it.
-use Rattle.std.specs.Prelude.{◌≡◌, ◌⊎◌, ℕ, Bool, true, false, List, [], map, None, IsTrue, IsFalse}
+use Rattle.std.specs.Prelude.{◌≡◌, ◌⊎◌, ℕ, Bool, true, false, List, map, None, IsTrue, IsFalse}
 use Rattle.vbm_ports.specs.Files.{Files}
 use Rattle.vbm_ports.specs.Disk.{DiskState}
 use Rattle.vbm_ports.specs.Names.{is_inner_name}
@@ -12,7 +12,7 @@ use Rattle.vbm_world.specs.World.{World, off}
 use Rattle.vbm_world.specs.Step.{step_of}
 use Rattle.vbm_world.specs.Loose.{Unsettled, unsettled_after}
 use Rattle.vbm_registry.specs.declared.library.Library.{Library}
-use Rattle.vbm_registry.specs.Library.{medium_entry_name, IsLibrary}
+use Rattle.vbm_registry.specs.Library.{medium_entry_name, IsLibrary, IsQuiet}
 use Rattle.vbm_registry.specs.Stands.{world_with, none_changed}
 use Rattle.vbm_engine.specs.declared.engine.Engine.{Engine}
 use Rattle.vbm_engine.specs.declared.engine.Image.{Image}
@@ -30,8 +30,7 @@ HasNoStrays l files now = (name : Name) → IsTrue (is_inner_name name) → IsFa
 
 -- a tidy store: nothing is being made or merged, and there are no strays
 pub record IsTidy (l : Library) (files now : Files) : Type 0 where
-  pub making : l.making ≡ None
-  pub merging : l.merging ≡ []
+  pub quiet : IsQuiet l
   pub strays : HasNoStrays l files now
 
 -- ---- a step
@@ -96,7 +95,7 @@ Decides files e c decided.Failed = Unit {0}
 -- what holds of a decision over any disk
 abbrev pub DecidesSound : Decided → Type 0
 DecidesSound (decided.Stay a) = Unit {0}
-DecidesSound (decided.Turn library images plan a) = IsLibrary library × (map image_name images ≡ map medium_entry_name library.media)
+DecidesSound (decided.Turn library images plan a) = IsLibrary library × IsQuiet library × (map image_name images ≡ map medium_entry_name library.media)
 DecidesSound decided.NoMemory = Unit {0}
 DecidesSound decided.Failed = Unit {0}
 

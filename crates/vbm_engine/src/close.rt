@@ -3,7 +3,7 @@
 ghost use Rattle.std.specs.Prelude.{◌≡◌, ◌++◌, IfOk, IsTrue, false};
 ghost use Rattle.vbm_ports.specs.Files.{Files};
 ghost use Rattle.vbm_ports.specs.Names.{is_medium_name};
-ghost use Rattle.vbm_registry.specs.Library.{medium_entry_name, without_entry, IsLibrary};
+ghost use Rattle.vbm_registry.specs.Library.{medium_entry_name, without_entry, IsLibrary, IsQuiet};
 ghost use Rattle.vbm_named.specs.Names.{has_name, without};
 ghost use Rattle.vbm_world.specs.declared.command.Command.TheVariants.{CloseMedium};
 ghost use Rattle.vbm_engine.specs.Closes.{removal};
@@ -40,6 +40,7 @@ fn plan_closing(
     delete: bool,
 ) -> Result<Plan, NoMemory>
     requires library { IsLibrary library.now }
+    requires quiet { IsQuiet library.now }
     requires name { IsTrue (is_medium_name name.now) }
     ensures { IfOk result (λ plan. plan.changes ≡ removal name.now delete ++ library_changes library.now) }
 {
@@ -56,6 +57,7 @@ fn close_entry(
     delete: bool,
 ) -> Result<(Library, Images, Plan), NoMemory>
     requires library { IsLibrary engine.now.library }
+    requires quiet { IsQuiet engine.now.library }
     requires name { IsTrue (is_medium_name name.now) }
     ensures library { IfOk result (λ x. x.0 ≡ without_entry engine.now.library name.now) }
     ensures images { IfOk result (λ x. x.1 ≡ without image_name name.now engine.now.images) }

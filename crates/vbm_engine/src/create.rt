@@ -7,11 +7,12 @@ ghost use Rattle.vbm_ports.specs.Names.{is_medium_name};
 ghost use Rattle.vbm_header.specs.declared.ImageType.TheVariants.{Dynamic};
 ghost use Rattle.vbm_volume.specs.Made.{IsNewHeader};
 ghost use Rattle.vbm_volume.specs.declared.flat.Variant.TheVariants.{Standard};
+ghost use Rattle.vbm_ids.specs.Identifier.{IsSeed};
 ghost use Rattle.vbm_world.specs.declared.command.Command.TheVariants as commands;
 ghost use Rattle.vbm_named.specs.Names.{has_name};
 ghost use Rattle.vbm_world.specs.Refusals.{capacity_of, is_bad_size, first_refusal, create_checks};
 ghost use Rattle.vbm_world.specs.Texts.{IsSpelled};
-ghost use Rattle.vbm_registry.specs.Library.{medium_entry_name, IsLibrary};
+ghost use Rattle.vbm_registry.specs.Library.{medium_entry_name, IsLibrary, IsQuiet};
 ghost use Rattle.vbm_registry.specs.Stands.{world_with, none_changed};
 ghost use Rattle.vbm_engine.specs.Plans.{library_changes, image_changes};
 ghost use Rattle.vbm_engine.specs.Serves.{IsSoundEngine, FitsDisk};
@@ -67,6 +68,7 @@ fn create_refusal<D: Disk>(
     size: Size,
 ) -> Result<Option<Refusal>, Failed>
     requires library { IsLibrary library.now }
+    requires quiet { IsQuiet library.now }
     requires name { IsTrue (is_medium_name name.now) }
     ensures answer { D.tells → IfOk result (λ r. r
         ≡ first_refusal (create_checks (world_with none_changed library.now (D.state disk.old).files) name.now (capacity_of size))) }
@@ -88,8 +90,8 @@ fn create_refusal<D: Disk>(
 
 // The header of a new medium's image.
 fn header_of(library: &Library, capacity: u64, variant: Variant) -> Header
-    requires seed { length (library.now).seed ≡ 16 }
-    requires next { (library.now).next < 2 ^ 62 }
+    requires seed { IsSeed (library.now).seed }
+    requires next { (library.now).next < NUMBER_LIMIT }
     requires capacity { IsFalse (is_bad_size capacity) }
     requires variant { variant ≡ Standard }
     ensures { IsNewMedium library.now capacity result }
@@ -103,7 +105,7 @@ fn header_of(library: &Library, capacity: u64, variant: Variant) -> Header
 fn with_new(alloc: Global, library: &Library, name: &[u8]) -> Result<Library, NoMemory>
     requires library { IsLibrary library.now }
     requires new { IsFalse (has_name medium_entry_name name.now (library.now).media) }
-    requires next { (library.now).next < 2 ^ 62 }
+    requires next { (library.now).next < NUMBER_LIMIT }
     ensures { IfOk result (λ l. l ≡ library_made library.now name.now) }
 {
     let medium = Medium {
@@ -120,6 +122,7 @@ fn plan_of(alloc: Global, name: &[u8], header: &Header, library: &Library) -> Re
     requires name { IsTrue (is_medium_name name.now) }
     requires header { IsNewHeader header.now }
     requires library { IsLibrary library.now }
+    requires quiet { IsQuiet library.now }
     ensures { IfOk result (λ plan. plan.changes ≡ image_changes name.now header.now ++ library_changes library.now) }
 {
     let mut plan = Plan::new(alloc);

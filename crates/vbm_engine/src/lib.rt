@@ -5,7 +5,6 @@ mod ask;
 mod close;
 mod create;
 mod engine;
-mod foreign;
 mod image;
 mod images;
 mod init;

@@ -10,7 +10,7 @@ ghost use Rattle.vbm_ports.specs.Disk.{Passes, OnlyReads};
 ghost use Rattle.vbm_ports.specs.Names.{IsStoreName};
 ghost use Rattle.vbm_intent.specs.Changes.{log_name};
 ghost use Rattle.vbm_intent.specs.Log.{IsOpen, recorded_size};
-ghost use Rattle.vbm_registry.specs.Library.{library_name, medium_entry_name, IsLibrary};
+ghost use Rattle.vbm_registry.specs.Library.{library_name, medium_entry_name, IsLibrary, IsQuiet};
 ghost use Rattle.vbm_registry.specs.Reading.{library_in};
 ghost use Rattle.vbm_registry.specs.Stands.{library_of, read_library, header_fault, file_fault, own_fault, same_id_fault, media_fault, held_by};
 ghost use Rattle.vbm_engine.specs.Undone.{is_failed, has_failed};
@@ -20,12 +20,12 @@ ghost use Rattle.vbm_engine.specs.Opens.{Opens, SyncsFirst, OpensSound, opening_
 ghost use Rattle.vbm_engine.specs.Parts.{OnBad, Finds, ids_of, fault_behind, OpensOf};
 
 use crate::engine::{Engine, Image, Images, Opened};
-use crate::foreign::is_foreign_id;
 use crate::image::{OpenFault, open_image};
 use crate::recover::{BadLog, recover_record};
 use crate::undone::Undone;
 use std::alloc::Global;
 use uuid::Uuid;
+use vbm_ids::is_foreign;
 use vbm_intent::{Log, record_size};
 use vbm_ports::{Disk, Failed, NoMemory, Text};
 use vbm_registry::{BadStore, DecodeFault, Library, Medium, decode};
@@ -133,6 +133,7 @@ fn start<D: Disk>(disk: &mut D, library: Library, images: Images) -> Opened
     requires closed { D.tells → IsOpen ((D.state disk.old).files log_name) → ⊥ }
     requires holds { D.tells → Holds library images (D.state disk.old).files }
     requires rules { IsLibrary library }
+    requires quiet { IsQuiet library }
     requires names { map image_name images ≡ map medium_entry_name library.media }
     ensures opens { D.tells → Opens (D.state disk.old) (D.state disk.new) result }
     ensures sound { OpensSound result }
@@ -155,6 +156,7 @@ fn load<D: Disk>(alloc: Global, disk: &mut D) -> Result<(Library, Images), Undon
     ensures told { D.tells → Finds
         (λ x. Holds x.0 x.1 (D.state disk.old).files) (λ bad. held_by (D.state disk.old).files ≡ Err bad) result }
     ensures rules { IfOk result (λ x. IsLibrary x.0) }
+    ensures quiet { IfOk result (λ x. IsQuiet x.0) }
     ensures names { IfOk result (λ x. map image_name x.1 ≡ map medium_entry_name (x.0).media) }
     ensures reads { OnlyReads D.tells (D.state disk.old) (D.state disk.new) }
     ensures faults { IsCounted (has_failed result) (D.state disk.old).faults (D.state disk.new).faults }
@@ -168,7 +170,8 @@ fn load<D: Disk>(alloc: Global, disk: &mut D) -> Result<(Library, Images), Undon
 fn load_library<D: Disk>(alloc: Global, disk: &mut D) -> Result<Library, Undone<BadStore>>
     ensures told { D.tells
         → Finds (λ l. library_of (D.state disk.old).files ≡ Ok l) (λ bad. library_of (D.state disk.old).files ≡ Err bad) result }
-    ensures sound { IfOk result IsLibrary }
+    ensures rules { IfOk result IsLibrary }
+    ensures quiet { IfOk result IsQuiet }
     ensures reads { OnlyReads D.tells (D.state disk.old) (D.state disk.new) }
     ensures faults { IsCounted (has_failed result) (D.state disk.old).faults (D.state disk.new).faults }
 {
@@ -185,7 +188,8 @@ fn read_front<D: Disk>(alloc: Global, disk: &mut D, len: usize) -> Result<Librar
     requires long { D.tells → len ≡ min (length (bytes_of ((D.state disk.old).files library_name))) (2 ^ 20 + 1) }
     ensures told { D.tells
         → Finds (λ l. library_of (D.state disk.old).files ≡ Ok l) (λ bad. library_of (D.state disk.old).files ≡ Err bad) result }
-    ensures sound { IfOk result IsLibrary }
+    ensures rules { IfOk result IsLibrary }
+    ensures quiet { IfOk result IsQuiet }
     ensures reads { OnlyReads D.tells (D.state disk.old) (D.state disk.new) }
     ensures faults { IsCounted (has_failed result) (D.state disk.old).faults (D.state disk.new).faults }
 {
@@ -204,7 +208,8 @@ fn read_into<D: Disk>(
     requires long { D.tells → length front.old ≡ min (length (bytes_of ((D.state disk.old).files library_name))) (2 ^ 20 + 1) }
     ensures told { D.tells
         → Finds (λ l. library_of (D.state disk.old).files ≡ Ok l) (λ bad. library_of (D.state disk.old).files ≡ Err bad) result }
-    ensures sound { IfOk result IsLibrary }
+    ensures rules { IfOk result IsLibrary }
+    ensures quiet { IfOk result IsQuiet }
     ensures reads { OnlyReads D.tells (D.state disk.old) (D.state disk.new) }
     ensures faults { IsCounted (has_failed result) (D.state disk.old).faults (D.state disk.new).faults }
 {
@@ -216,7 +221,8 @@ fn read_into<D: Disk>(
 
 fn decode_library(alloc: Global, bytes: &[u8]) -> Result<Library, Undone<BadStore>>
     ensures told { Finds (λ l. read_library (library_in bytes.now) ≡ Ok l) (λ bad. read_library (library_in bytes.now) ≡ Err bad) result }
-    ensures sound { IfOk result IsLibrary }
+    ensures rules { IfOk result IsLibrary }
+    ensures quiet { IfOk result IsQuiet }
     ensures no_fault { has_failed result ≡ false }
 {
     match decode(alloc, bytes) {
@@ -326,7 +332,7 @@ fn accept(library: &Library, image: Image) -> Result<Image, Undone<BadStore>>
     if header.image_type.is_differencing() {
         return Err(Undone::Refused(BadStore::WrongType(name)));
     }
-    if is_foreign_id(library, header.id) {
+    if is_foreign(library.seed, library.next, header.id) {
         return Err(Undone::Refused(BadStore::WrongId(name)));
     }
     Ok(Image { name, header })

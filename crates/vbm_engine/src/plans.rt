@@ -9,7 +9,7 @@ ghost use Rattle.vbm_intent.specs.Changes.{of_file, IsAllowed};
 ghost use Rattle.vbm_intent.specs.Plan.{body_size};
 ghost use Rattle.vbm_volume.specs.Like.{map_end};
 ghost use Rattle.vbm_volume.specs.Made.{IsNewHeader};
-ghost use Rattle.vbm_registry.specs.Library.{library_name, spelling, IsLibrary};
+ghost use Rattle.vbm_registry.specs.Library.{library_name, spelling, IsLibrary, IsQuiet};
 ghost use Rattle.vbm_registry.specs.Reading.{library_in};
 ghost use Rattle.vbm_engine.specs.Plans.{library_changes, gap_changes, front_changes, image_changes, EndsBy};
 
@@ -87,6 +87,7 @@ pub(crate) fn plan_library(
     library: &Library,
 ) -> Result<(), NoMemory>
     requires library { IsLibrary library.now }
+    requires quiet { IsQuiet library.now }
     requires apart { of_file library_name plan.old.changes ≡ [] }
     requires small { body_size plan.old.changes ≤ 2 ^ 22 }
     requires few { length plan.old.changes ≤ 2 ^ 15 }

@@ -7,7 +7,7 @@ ghost use Rattle.vbm_ports.specs.Counts.{IsCounted};
 ghost use Rattle.vbm_ports.specs.Disk.{OnlyReads};
 ghost use Rattle.vbm_ports.specs.Files.{Files};
 ghost use Rattle.vbm_ports.specs.Names.{is_medium_name};
-ghost use Rattle.vbm_registry.specs.Library.{medium_entry_name, with_entry, IsLibrary};
+ghost use Rattle.vbm_registry.specs.Library.{medium_entry_name, with_entry, IsLibrary, IsQuiet};
 ghost use Rattle.vbm_named.specs.Names.{has_name, put_by};
 ghost use Rattle.vbm_world.specs.Refusals.{first_refusal};
 ghost use Rattle.vbm_world.specs.declared.command.Command.TheVariants.{OpenMedium};
@@ -19,13 +19,13 @@ ghost use Rattle.vbm_engine.specs.Serves.{image_name, IsSoundEngine, Holds, Fits
 ghost use Rattle.vbm_engine.specs.Steps.{Decides, DecidesSound, deciding_failed};
 
 use crate::engine::{Decided, Engine, Image, Images};
-use crate::foreign::is_foreign_id;
 use crate::image::{OpenFault, open_image};
 use crate::images::with_image;
 use crate::plans::plan_library;
 use std::alloc::Global;
 use uuid::Uuid;
 use vbm_header::Header;
+use vbm_ids::is_foreign;
 use vbm_intent::Plan;
 use vbm_modes::Mode;
 use vbm_ports::{Disk, NoMemory, Text};
@@ -51,7 +51,7 @@ fn image_refusal(engine: &Engine, header: &Header) -> Option<Refusal>
     if has_id(engine.images.as_slice(), header.id) {
         return Some(Refusal::DuplicateId);
     }
-    if is_foreign_id(&engine.library, header.id) {
+    if is_foreign(engine.library.seed, engine.library.next, header.id) {
         return Some(Refusal::ForeignId);
     }
     if engine.library.media.len() >= MEDIA_LIMIT {
@@ -79,7 +79,8 @@ fn library_with(alloc: Global, library: &Library, name: &[u8]) -> Result<Library
 }
 
 fn library_plan(alloc: Global, library: &Library) -> Result<Plan, NoMemory>
-    requires { IsLibrary library.now }
+    requires library { IsLibrary library.now }
+    requires quiet { IsQuiet library.now }
     ensures { IfOk result (λ plan. plan.changes ≡ library_changes library.now) }
 {
     let mut plan = Plan::new(alloc);
@@ -94,6 +95,7 @@ fn add_entry(
     image: Image,
 ) -> Result<(Library, Images, Plan), NoMemory>
     requires sound { IsLibrary engine.now.library }
+    requires quiet { IsQuiet engine.now.library }
     requires free { IsFalse (has_name medium_entry_name image.name engine.now.library.media) }
     requires grown { IsLibrary (with_entry engine.now.library (new_entry image.name)) }
     ensures library { IfOk result (λ x. x.0 ≡ with_entry engine.now.library (new_entry image.name)) }

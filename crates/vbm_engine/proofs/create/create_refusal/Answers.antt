@@ -1,6 +1,8 @@
-use Rattle.std.proofs.Common.{◌^◌, length, is_some, ap, sym, ◌∙◌}
+use Rattle.std.proofs.Common.{length, is_some, ap, sym, ◌∙◌}
 use Rattle.std.specs.Prelude.{nat_le}
 use Rattle.std.proofs.lemmas.Bool.{leb-false}
+use Rattle.vbm_ids.specs.declared.TheConstants.{NUMBER_LIMIT}
+use Rattle.vbm_world.specs.declared.refusals.TheConstants.{MEDIA_LIMIT}
 use Rattle.vbm_world.specs.Refusals.{capacity_of, is_bad_size}
 use Rattle.vbm_named.proofs.Lists.{has_found}
 use Rattle.vbm_registry.specs.Library.{medium_entry_name}
@@ -16,10 +18,10 @@ returns-clause-answer g c = λ told.
     let taken = c.is_some.ensures ∙ some_copied c.find.result ∙ ap is_some c.find.ensures ∙ sym (has_found medium_entry_name name l.media) in
     let there = c.is_some-2.ensures ∙ ap is_some (c.in_ok-len.ensures.answer told) ∙ some_map length (files name) in
     let size = c.is_bad_size.ensures ∙ ap is_bad_size c.capacity.ensures in
-    let full = ap (nat_le 1024) c.len.ensures in
+    let full = ap (nat_le MEDIA_LIMIT) c.len.ensures in
     c.first_that_holds.ensures
-    ∙ (λ i. first_check (taken i) (there i) (size i) (full i) (nat_le (2 ^ 62) l.next))
-    ∙ refusal_is l files name (capacity_of c.args.size) c.requires.library c.requires.name
+    ∙ (λ i. first_check (taken i) (there i) (size i) (full i) (nat_le NUMBER_LIMIT l.next))
+    ∙ refusal_is l files name (capacity_of c.args.size) c.requires.quiet c.requires.name
 
 pub returns-clause-can : goal.returns-clause-can
 returns-clause-can g c = λ none.
@@ -31,6 +33,6 @@ returns-clause-can g c = λ none.
     record {
       new = sym taken ∙ all.0;
       size = sym size ∙ all.2;
-      room = leb-false _ _ (sym (ap (nat_le 1024) c.len.ensures) ∙ all.3);
+      room = leb-false _ _ (sym (ap (nat_le MEDIA_LIMIT) c.len.ensures) ∙ all.3);
       next = leb-false _ _ all.4;
     }

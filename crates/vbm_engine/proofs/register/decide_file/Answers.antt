@@ -6,12 +6,12 @@ use Rattle.vbm_engine.proofs.register.decide_file.Goals as goal
 pub returns-in-Err-Missing-clause-decides : goal.returns-in-Err-Missing-clause-decides
 returns-in-Err-Missing-clause-decides g c told =
     let old = g.D.Disk.state c.args.disk.now in
-    opens_missing c.args.engine.now old.files c.args.name.now (c.requires.fits told).holds c.requires.sound.library c.requires.name c.requires.free
+    opens_missing c.args.engine.now old.files c.args.name.now (c.requires.fits told).holds c.requires.sound.library c.requires.sound.quiet c.requires.name c.requires.free
     (subst (λ x. OpensImage (Err x) (old.files c.args.name.now)) c.in-Err-Missing.field-0-is (c.in-Err-Missing.ensures.told told))
 
 pub returns-in-Err-Bad-clause-decides : goal.returns-in-Err-Bad-clause-decides
 returns-in-Err-Bad-clause-decides g c told =
     let old = g.D.Disk.state c.args.disk.now in
     rw (c.number.ensures, c.in-Err-Bad.bad-is) (opens_bad c.args.engine.now old.files c.args.name.now (c.requires.fits told).holds
-    c.requires.sound.library c.requires.name c.requires.free
+    c.requires.sound.library c.requires.sound.quiet c.requires.name c.requires.free
     c.in-Err-Bad.bad (subst (λ x. OpensImage (Err x) (old.files c.args.name.now)) c.in-Err-Bad.field-0-is (c.in-Err-Bad.ensures.told told)))

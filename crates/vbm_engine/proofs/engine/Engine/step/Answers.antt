@@ -5,18 +5,18 @@ pub returns-in-Ok-clause-step : goal.returns-in-Ok-clause-step
 returns-in-Ok-clause-step g c told =
     let turn = c.in-Turn.ensures in
     let commit = c.in-Ok.ensures in
-    commit_advances told turn.reads (turn.decides told) turn.sound.0 c.requires.sound c.commit.new.self (g.D.Disk.state c.commit.new.disk)
+    commit_advances told turn.reads (turn.decides told) turn.sound.0 turn.sound.1 c.requires.sound c.commit.new.self (g.D.Disk.state c.commit.new.disk)
     (commit.ok told) (commit.settled told) (commit.shut told) ((g.met.D.Disk.coherent c.commit.new.disk).read_is_image told)
 
 pub returns-in-Ok-clause-any_moment : goal.returns-in-Ok-clause-any_moment
 returns-in-Ok-clause-any_moment g c told =
     let turn = c.in-Turn.ensures in
-    commit_passes told turn.reads (turn.decides told) turn.sound.0 (c.commit.ensures.any_moment told) c.requires.sound
+    commit_passes told turn.reads (turn.decides told) turn.sound.0 turn.sound.1 (c.commit.ensures.any_moment told) c.requires.sound
 
 pub returns-clause-any_moment : goal.returns-clause-any_moment
 returns-clause-any_moment g c told =
     let turn = c.in-Turn.ensures in
-    commit_passes told turn.reads (turn.decides told) turn.sound.0 (c.commit.ensures.any_moment told) c.requires.sound
+    commit_passes told turn.reads (turn.decides told) turn.sound.0 turn.sound.1 (c.commit.ensures.any_moment told) c.requires.sound
 
 pub returns-in-Stay-clause-step : goal.returns-in-Stay-clause-step
 returns-in-Stay-clause-step g c told =
