@@ -17,11 +17,11 @@ use Rattle.vbm_intent.proofs.Applying.{all_arrive}
 use Rattle.vbm_intent.proofs.FilePartly.{nothing_left}
 use Rattle.vbm_intent.proofs.Records.{record_long, behind_put, record_put}
 
-cases_name : (a b : List ℕ) → (a ≡ b) ⊎ (a ≢ b)
+pub cases_name : (a b : List ℕ) → (a ≡ b) ⊎ (a ≢ b)
 cases_name a b = ⊎_elim (λ is. inl ((bytes_eq-Decides a b).0 is)) (λ no. inr (λ same. cc ((bytes_eq-Decides a b).1 same, no))) (cases_Bool (bytes_eq a b))
 
 -- no change of a plan is of the log
-spares_log : (cs : List Change) → All IsAllowed cs → of_file log_name cs ≡ []
+pub spares_log : (cs : List Change) → All IsAllowed cs → of_file log_name cs ≡ []
 spares_log [] allowed = refl
 spares_log (c ∷ cs) allowed = ⊎_elim
     (λ is. absurd ((All-head IsAllowed c cs allowed).not_log ((bytes_eq-Decides (name_of c) log_name).0 is)))
@@ -36,21 +36,21 @@ shut_closed (Some (g ∷ behind)) shut opens = shut opens.0
 pub besides_sym : (a b : Files) → SameBesidesLog a b → SameBesidesLog b a
 besides_sym a b same = λ name other. sym (same name other)
 
-besides_trans : (a b c : Files) → SameBesidesLog a b → SameBesidesLog b c → SameBesidesLog a c
+pub besides_trans : (a b c : Files) → SameBesidesLog a b → SameBesidesLog b c → SameBesidesLog a c
 besides_trans a b c first second = λ name other. first name other ∙ second name other
 
-sets_besides : (value : Option (List ℕ)) (a b : Files) → Sets log_name value a b → SameBesidesLog b a
+pub sets_besides : (value : Option (List ℕ)) (a b : Files) → Sets log_name value a b → SameBesidesLog b a
 sets_besides value a b sets = λ name other. sets.others name other
 
 -- the log holds this record behind a gate
-record HasRecord (cs : List Change) (file : Option (List ℕ)) : Type 0 where
-  gate : ℕ
-  behind : List ℕ
-  log : file ≡ Some (gate ∷ behind)
-  holds : IsRecord (drop 7 behind) cs
+pub record HasRecord (cs : List Change) (file : Option (List ℕ)) : Type 0 where
+  pub gate : ℕ
+  pub behind : List ℕ
+  pub log : file ≡ Some (gate ∷ behind)
+  pub holds : IsRecord (drop 7 behind) cs
 
 -- a record is written behind a shut gate
-recorded : (cs : List Change) (text : List ℕ) (file new : Option (List ℕ)) → IsRecord text cs → IsShut file → new ≡ Some (put 8 text (bytes_of file)) → HasRecord cs new
+pub recorded : (cs : List Change) (text : List ℕ) (file new : Option (List ℕ)) → IsRecord text cs → IsShut file → new ≡ Some (put 8 text (bytes_of file)) → HasRecord cs new
 recorded cs text None new is shut log = absurd shut
 recorded cs text (Some []) new is shut log = absurd shut
 recorded cs text (Some (g ∷ behind)) new is shut log = record {
@@ -60,10 +60,10 @@ recorded cs text (Some (g ∷ behind)) new is shut log = record {
   holds = record_put g behind text cs is;
 }
 
-long_enough : (cs : List Change) (behind : List ℕ) → IsRecord (drop 7 behind) cs → 15 ≤ length behind
+pub long_enough : (cs : List Change) (behind : List ℕ) → IsRecord (drop 7 behind) cs → 15 ≤ length behind
 long_enough cs behind holds = omega (arith, record_long (drop 7 behind) cs holds, length-drop 7 behind)
 
-is_pending : (cs : List Change) (image : Files) (behind : List ℕ) → image log_name ≡ Some (165 ∷ behind) → IsRecord (drop 7 behind) cs → Fits cs image → IsPending image cs
+pub is_pending : (cs : List Change) (image : Files) (behind : List ℕ) → image log_name ≡ Some (165 ∷ behind) → IsRecord (drop 7 behind) cs → Fits cs image → IsPending image cs
 is_pending cs image behind log holds fits = record {
   opens = subst IsOpen (sym log) (refl, long_enough cs behind holds);
   recorded = subst (λ f. IsRecord (drop 8 (bytes_of f)) cs) (sym log) holds;
@@ -85,7 +85,7 @@ module _ (cs : List Change) (plan : IsPlan cs) where
   log_kept files image partly = nothing_left (files log_name) (image log_name) (subst (λ l. IsFilePartly l (files log_name) (image log_name)) (spares_log cs plan.allowed) (partly log_name))
 
   -- an image with the record, behind an open gate or a shut one
-  open_or_shut : (files : Files) (images : Files → Type 0) (image : Files) (gate : ℕ) (behind : List ℕ) → image log_name ≡ Some (gate ∷ behind) → IsRecord (drop 7 behind) cs
+  pub open_or_shut : (files : Files) (images : Files → Type 0) (image : Files) (gate : ℕ) (behind : List ℕ) → image log_name ≡ Some (gate ∷ behind) → IsRecord (drop 7 behind) cs
       → Fits cs image → SameBesidesLog (changed cs image) (changed cs files) → (Redo image image → IsBeforeOrAfter cs files images image) → IsBeforeOrAfter cs files images image
   open_or_shut files images image gate behind log holds fits same if_shut = ⊎_elim
       (λ is. done (record {
@@ -98,21 +98,21 @@ module _ (cs : List Change) (plan : IsPlan cs) where
 
   module _ (old : DiskState) (shut : IsShutInAll old.may_leave) (here : old.may_leave old.files) (fits : Fits cs old.files) where
     -- while the record is written
-    record_phase : (image : Files) → IsRecordTorn old.may_leave image → IsBeforeOrAfter cs old.files old.may_leave image
+    pub record_phase : (image : Files) → IsRecordTorn old.may_leave image → IsBeforeOrAfter cs old.files old.may_leave image
     record_phase image torn = before torn.from torn.was (record { result = image; redo = closed (shut_closed (image log_name) torn.shut) refl; same = torn.others })
 
     pub record_time : (next : DiskState) → Passes old next (IsRecordTorn old.may_leave) → Passes old next (IsBeforeOrAfter cs old.files old.may_leave)
     record_time next time = Passes-weaker old next _ _ time record_phase
 
     module _ (text : List ℕ) (is_record : IsRecord text cs) (first : DiskState) (writes : IsWritten log_name 8 text old.files first.files) where
-      has : HasRecord cs (first.files log_name)
+      pub has : HasRecord cs (first.files log_name)
       has = recorded cs text (old.files log_name) (first.files log_name) is_record (shut old.files here) writes.here
 
-      first_same : SameBesidesLog first.files old.files
+      pub first_same : SameBesidesLog first.files old.files
       first_same = sets_besides _ old.files first.files writes
 
       -- while the gate opens
-      open_phase : (image : Files) → IsGateTorn first.files image → IsBeforeOrAfter cs old.files old.may_leave image
+      pub open_phase : (image : Files) → IsGateTorn first.files image → IsBeforeOrAfter cs old.files old.may_leave image
       open_phase image torn =
           let like : SameBesidesLog image old.files = besides_trans image first.files old.files torn.others first_same in
           open_or_shut old.files old.may_leave image torn.gate has.behind (torn.log ∙ ap (λ (f : Option (List ℕ)). Some (torn.gate ∷ behind_gate f)) has.log) has.holds

@@ -1,21 +1,21 @@
 -- Changes by an index of them.
-use Rattle.std.proofs.Common.{All, ◌≡◌, ◌≢◌, ◌⊎◌, ◌↔◌, inl, inr, ⊎_elim, ℕ, ◌<◌, ◌≤◌, List, [], ◌∷◌, ◌++◌, length, Bool, true, false, cond, Option, Some, None, refl, sym, ◌∙◌, ap, subst, arith}
-use Rattle.std.specs.Prelude.{filter, map, IsPermutation, unwrap_or, IfSome, IfOk, IsTrue, Result, Ok, Err}
+use Rattle.std.proofs.Common.{All, ◌≡◌, ◌↔◌, inl, inr, ⊎_elim, ℕ, ◌<◌, List, [], ◌∷◌, Bool, true, cond, Option, Some, None, refl, sym, ◌∙◌, ap, subst, arith}
+use Rattle.std.specs.Prelude.{filter, IsPermutation, unwrap_or, IfSome, IfOk, IsTrue, Result, Ok, Err}
 use Rattle.std.specs.Str.{bytes_eq}
-use Rattle.std.proofs.lemmas.Bool.{cases_Bool, false≢true}
+use Rattle.std.proofs.lemmas.Bool.{cases_Bool}
 use Rattle.std.proofs.lemmas.List.Elements.{All-nil, All-cons, All-head, All-tail}
-use Rattle.std.proofs.lemmas.List.Sorted.{All-permutation, IsPermutation-sym, IsPermutation-map}
+use Rattle.std.proofs.lemmas.List.Sorted.{All-permutation, IsPermutation-map}
 use Rattle.std.proofs.lemmas.Slice.Eq.{bytes_eq-Decides}
-use Rattle.vbm_ports.specs.Files.{Files, bytes_of}
+use Rattle.vbm_ports.specs.Files.{Files}
 use Rattle.vbm_intent.specs.declared.change.Change.{Change}
-use Rattle.vbm_intent.specs.Changes.{name_of, after, of_file, changed, start_of, effect, Touches, IsAllowed, ApartFrom, IsApart, FitsFile, Fits}
+use Rattle.vbm_intent.specs.Changes.{name_of, of_file, IsAllowed, ApartFrom, FitsFile, Fits}
 use Rattle.vbm_intent.specs.Record.{changes_of}
-use Rattle.vbm_intent.specs.Check.{touched_from, touched_to, AreApart}
+use Rattle.vbm_intent.specs.Check.{AreApart}
 use Rattle.vbm_intent.specs.Index.{place_of, change_at, changes_at, IsIn, Pairs, IsRising, AreApartIn, IsNameBefore, ComesBefore, StandsBefore}
-use Rattle.vbm_intent.proofs.Applying.{cases_name, of_file_yes, of_file_no}
+use Rattle.vbm_intent.proofs.Applying.{of_file_yes, of_file_no}
 use Rattle.vbm_intent.proofs.Apart.{not_empty, apart_spans, apart_next, AllApart, all_apart_next}
 use Rattle.vbm_intent.proofs.Names.{not_before_itself, names_before}
-use Rattle.vbm_intent.proofs.Members.{each_in, all_of, in_shuffled, in_original, pairs_in, pairs_from, Chain, chain_pairs, same_rising, in_filtered, into_filtered, filtered_pairs}
+use Rattle.vbm_intent.proofs.Members.{in_shuffled, in_original, pairs_in, pairs_from, Chain, chain_pairs, same_rising, in_filtered, into_filtered, filtered_pairs}
 
 pub apart_turned : (c d : Change) → AreApart c d → AreApart d c
 apart_turned c d apart = λ named i td tc. apart (sym named) i tc td

@@ -1,16 +1,14 @@
 -- The places of a record's changes, noted one after the other.
-use Rattle.std.proofs.Common.{All, ◌≡◌, inl, inr, ℕ, zero, suc, ◌+◌, ◌-◌, ◌^◌, ◌<◌, ◌≤◌, List, [], ◌∷◌, ◌++◌, length, take, drop, Option, Some, None, refl, sym, ◌∙◌, ap, subst, arith, append_assoc, length-append}
-use Rattle.std.specs.Prelude.{map, slice_set, option_and_then, unwrap_or, IsSome}
-use Rattle.std.specs.Int.{to_le_bytes, w32}
+use Rattle.std.proofs.Common.{All, ◌≡◌, inl, inr, ℕ, suc, ◌+◌, ◌-◌, ◌<◌, ◌≤◌, List, [], ◌∷◌, ◌++◌, length, take, drop, Option, Some, None, refl, sym, ◌∙◌, ap, subst, arith, append_assoc, length-append}
+use Rattle.std.specs.Prelude.{slice_set, option_and_then, unwrap_or, IsSome}
 use Rattle.std.proofs.lemmas.List.{drop_at, take_all, take_more_set, append-nil}
 use Rattle.std.proofs.lemmas.List.Elements.{All-nil}
 use Rattle.std.proofs.lemmas.Bool.{false≢true}
-use Rattle.std.proofs.lemmas.Nat.{from_le_bytes-to_le_bytes_4}
 use Rattle.vbm_intent.specs.declared.change.Change.{Change}
 use Rattle.vbm_intent.specs.declared.change.Change.TheVariants.{Write, Fill, Cut, Remove}
 use Rattle.vbm_intent.specs.Record.{Part, change_of, changes_of}
 use Rattle.vbm_intent.specs.Plan.{text_size}
-use Rattle.vbm_intent.specs.Index.{place_of, change_read, change_at, changes_at, IsIn, IsRising}
+use Rattle.vbm_intent.specs.Index.{place_of, change_read, change_at, changes_at, IsRising}
 use Rattle.vbm_intent.proofs.Members.{each_in, all_of, in_either, pairs_end}
 use Rattle.vbm_intent.proofs.Pushes.{Ending, Ends, good_change}
 

@@ -1,13 +1,12 @@
 -- Changes that fit the files, by an index of them that stands by file.
-use Rattle.std.proofs.Common.{All, ◌≡◌, ◌≢◌, ◌⊎◌, inl, inr, ⊎_elim, ℕ, ◌^◌, ◌<◌, ◌≤◌, List, [], ◌∷◌, ◌++◌, length, Option, refl, sym, ◌∙◌, ap, subst, arith, append_assoc}
+use Rattle.std.proofs.Common.{All, ◌≡◌, ◌≢◌, ◌⊎◌, inl, inr, ℕ, ◌^◌, ◌<◌, ◌≤◌, List, [], ◌∷◌, ◌++◌, length, Option, refl, sym, ◌∙◌, ap, subst, arith, append_assoc}
 use Rattle.std.proofs.lemmas.Bool.{false≢true}
 use Rattle.std.proofs.lemmas.List.{append-nil}
-use Rattle.std.specs.Prelude.{codes}
 use Rattle.vbm_ports.specs.Files.{Files, bytes_of}
 use Rattle.vbm_ports.specs.Names.{is_medium_name, is_inner_name, IsStoreName}
 use Rattle.vbm_intent.specs.declared.change.Change.{Change}
 use Rattle.vbm_intent.specs.Changes.{name_of, effect, after, of_file, changed, start_of, IsAllowed, Fits}
-use Rattle.vbm_intent.specs.Index.{place_of, change_at, changes_at, IsIn, Pairs, IsNameBefore, StandsBefore}
+use Rattle.vbm_intent.specs.Index.{change_at, changes_at, IsIn, Pairs, IsNameBefore, StandsBefore}
 use Rattle.vbm_intent.proofs.Applying.{cases_name, of_file_yes, of_file_no, of_file-append, after-append, named_self, next_fits}
 use Rattle.vbm_intent.proofs.Fitting.{fits_one_more}
 use Rattle.vbm_intent.proofs.Indexed.{allowed_in}

@@ -2,7 +2,7 @@
 use Rattle.std.proofs.Common.{◌≡◌, ℕ, zero, suc, ◌+◌, ◌-◌, ◌≤◌, List, [], ◌∷◌, ◌++◌, length, take, drop, replicate, Option, Some, None, refl, sym, ◌∙◌, ap, arith, append_assoc, length-append, length-take}
 use Rattle.std.proofs.lemmas.List.{take-append-le, take-replicate, length-replicate}
 use Rattle.vbm_ports.specs.Files.{bytes_of, put}
-use Rattle.vbm_intent.specs.Log.{IsShut, unread_of, IsCommitted}
+use Rattle.vbm_intent.specs.Log.{IsShut, IsCommitted}
 use Rattle.vbm_intent.specs.Partly.{behind_gate}
 
 -- the first n bytes, with zeros for those that are missing

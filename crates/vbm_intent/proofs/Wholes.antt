@@ -26,7 +26,7 @@ module _ (text : List ℕ) (cs : List Change) (is : IsWholeRecord text cs) where
   pub body_read : changes_of (count_of text) (drop 8 text) ≡ Some cs
   body_read = sym (read_whole text is.whole) ∙ is.plan.changes
 
-  parts : Pushed (count_of text) (drop 8 text) (Some cs)
+  pub parts : Pushed (count_of text) (drop 8 text) (Some cs)
   parts = subst (λ o. Pushed (count_of text) (drop 8 text) o) body_read (pushed (count_of text) (drop 8 text))
 
   pub whole_count : length cs ≡ count_of text
@@ -35,7 +35,7 @@ module _ (text : List ℕ) (cs : List Change) (is : IsWholeRecord text cs) where
   pub whole_size : length text ≡ 8 + body_size cs
   whole_size = omega (arith, is.whole, length-drop 8 text, parts.1)
 
-numbers_fit : (c : Change) → IsWithinLimits c → text_size c ≤ 2 ^ 25 → NumbersFit c
+pub numbers_fit : (c : Change) → IsWithinLimits c → text_size c ≤ 2 ^ 25 → NumbersFit c
 numbers_fit (Write name at bytes) limits size = (omega (arith, limits.1), omega (arith, size))
 numbers_fit (Fill name at len byte) limits size = (omega (arith, limits.2), omega (arith, limits.1))
 numbers_fit (Cut name len) limits size = omega (arith, limits)
@@ -45,7 +45,7 @@ pub of_file_end : (name : List ℕ) (c : Change) (cs : List Change) → bytes_eq
 of_file_end name c [] other = ap (λ (b : Bool). cond b (c ∷ []) []) other
 of_file_end name c (d ∷ cs) other = ap (λ (l : List Change). cond (bytes_eq (name_of d) name) (d ∷ l) l) (of_file_end name c cs other)
 
-plan_push : (cs : List Change) (c : Change) → IsPlan cs → IsAllowed c → IsApart (of_file (name_of c) (cs ++ c ∷ [])) → IsPlan (cs ++ c ∷ [])
+pub plan_push : (cs : List Change) (c : Change) → IsPlan cs → IsAllowed c → IsApart (of_file (name_of c) (cs ++ c ∷ [])) → IsPlan (cs ++ c ∷ [])
 plan_push cs c plan allowed apart = record {
   allowed = All-push IsAllowed cs c plan.allowed allowed;
   apart = λ name. ⊎_elim

@@ -1,7 +1,6 @@
-use Rattle.std.proofs.Common.{All, ◌≡◌, ◌↔◌, List, length, take, sym, ap, subst, arith, length-take}
-use Rattle.vbm_intent.specs.declared.change.Change.{Change}
+use Rattle.std.proofs.Common.{All, ◌↔◌, sym, subst, arith, length-take}
 use Rattle.vbm_intent.specs.Changes.{IsAllowed}
-use Rattle.vbm_intent.specs.Index.{changes_at, AreApartIn}
+use Rattle.vbm_intent.specs.Index.{AreApartIn}
 use Rattle.vbm_intent.proofs.Apart.{AllApart}
 use Rattle.vbm_intent.proofs.Indexed.{told_iff, index_told, allowed_shuffled, apart_shuffled}
 use Rattle.vbm_intent.proofs.index.apart_by_index.Goals as goal

@@ -1,5 +1,4 @@
-use Rattle.std.proofs.Common.{All, ◌≡◌, ◌↔◌, List, length, take, sym, ap, subst, arith, length-take}
-use Rattle.vbm_intent.specs.declared.change.Change.{Change}
+use Rattle.std.proofs.Common.{All, ◌↔◌, sym, subst, arith, length-take}
 use Rattle.vbm_intent.specs.Changes.{IsAllowed, Fits}
 use Rattle.vbm_intent.specs.Index.{changes_at}
 use Rattle.vbm_intent.proofs.Indexed.{told_iff_ok, index_told, allowed_shuffled, fits_shuffled}

@@ -1,4 +1,4 @@
-use Rattle.std.proofs.Common.{◌≡◌, List, ℕ, inl, inr, refl, sym, ◌∙◌, ap, subst}
+use Rattle.std.proofs.Common.{inl, inr, refl, sym, ◌∙◌, ap, subst}
 use Rattle.std.proofs.lemmas.Bool.{iff_false, false≢true}
 use Rattle.vbm_intent.specs.Changes.{IsAllowed}
 use Rattle.vbm_intent.specs.Pieces.{change_in}

@@ -1,4 +1,4 @@
-use Rattle.std.proofs.Common.{◌≡◌, List, ℕ, inr, sym, ◌∙◌, arith}
+use Rattle.std.proofs.Common.{◌≡◌, inr, sym, ◌∙◌, arith}
 use Rattle.std.proofs.lemmas.Bool.{leb-true}
 use Rattle.vbm_intent.specs.Changes.{name_of}
 use Rattle.vbm_intent.specs.Pieces.{change_in}
