@@ -37,11 +37,7 @@ fn disk_of_changes(alloc: Global, changes: Vec<Part<'_>>, file: &[u8]) -> Result
 }
 
 // Whether the log is found bad in time.
-fn is_judged_in_time(
-    rt: &HostRuntime,
-    alloc: Global,
-    disk: &mut MemDisk,
-) -> Result<bool, Fail> {
+fn is_judged_in_time(rt: &HostRuntime, alloc: Global, disk: &mut MemDisk) -> Result<bool, Fail> {
     let start = Instant::now(rt)?;
     let end = redo_log(alloc, disk)?;
     let spent = start.elapsed(rt)?.as_millis();
