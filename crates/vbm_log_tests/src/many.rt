@@ -17,8 +17,8 @@ const LOG: &[u8] = b"intent.vbm";
 /// No record has more changes.
 const MOST: usize = 65_536;
 
-/// A record is judged in less, also on a busy machine.
-const LONGEST: u128 = 5_000;
+/// A record is judged in less, in milliseconds, even on a busy machine.
+const LONGEST: u128 = 20_000;
 
 // The place of a write in a file that all writes fill, each at another place than its number.
 fn scattered(i: usize) -> u64 {
