@@ -205,8 +205,8 @@ impl World {
         ensures outcome { IfOk result (λ r. outcome_of r ≡ close_medium (seen self.now) name.now delete) }
         ensures order { IfOk result (λ r. Rises file_name r.0.shelf) }
     {
-        if self.is_in_use(name) {
-            return self.refused(alloc, Refusal::InUse);
+        if let Some(refusal) = self.close_refusal(name) {
+            return self.refused(alloc, refusal);
         }
         let media = names::without(alloc, self.media.as_slice(), name)?;
         let shelf = self.shelf_after(alloc, name, medium, delete)?;

@@ -5,7 +5,7 @@ ghost use Rattle.std.specs.List.{list_any};
 ghost use Rattle.std.specs.Option.{option_copied};
 ghost use Rattle.vbm_world.specs.World.{medium_of, has_medium, is_in_snapshot, is_in_use, is_normal, is_frozen};
 ghost use Rattle.vbm_world.specs.Refusals.{capacity_of, is_bad_size, is_full, is_spent};
-ghost use Rattle.vbm_world.specs.Refusals.{first_refusal, create_checks, id_checks, file_checks, open_checks};
+ghost use Rattle.vbm_world.specs.Refusals.{first_refusal, create_checks, id_checks, file_checks, open_checks, close_checks};
 ghost use Rattle.vbm_world.specs.Seen.{seen, on_shelf};
 
 use crate::command::{Refusal, Size, Which};
@@ -78,7 +78,7 @@ impl World {
     }
 
     // Whether a slot or a snapshot has the medium.
-    pub(crate) fn is_in_use(&self, name: &[u8]) -> bool
+    fn is_in_use(&self, name: &[u8]) -> bool
         ensures { result ≡ is_in_use self.now.machines name.now }
     {
         let mut machines = self.machines.as_slice().iter();
@@ -169,5 +169,14 @@ impl World {
             return Some(Refusal::NameTaken);
         }
         self.file_refusal(self.on_shelf(name))
+    }
+
+    pub(crate) fn close_refusal(&self, name: &[u8]) -> Option<Refusal>
+        ensures { result ≡ first_refusal (close_checks (seen self.now) name.now) }
+    {
+        if self.is_in_use(name) {
+            return Some(Refusal::InUse);
+        }
+        None
     }
 }
