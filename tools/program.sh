@@ -97,7 +97,7 @@ build() {
     exit 9
   fi
   echo "vbm: proving and building the program; from nothing that may take an hour (what is said of it: $log)" >&2
-  mkdir -p "$root/out" && rm -f "$built" && : >"$log" || exit 9
+  mkdir -p "$root/out" && rm -f "$built" && : >"$log" && : >"$root/out/started" || exit 9
   if [ -t 2 ]; then
     (trap - INT; show_progress "$log") &
     progress=$!
@@ -113,6 +113,8 @@ build() {
     echo "vbm: the program was not built; all that was said of it: $log" >&2
     exit 9
   fi
+  # What was changed meanwhile is newer than the program.
+  touch -r "$root/out/started" "$built"
   rt version >"$root/out/kit"
 }
 
