@@ -13,6 +13,9 @@ use vbm_top::{run, status};
 /// The most bytes that are taken from standard input.
 const MOST_INPUT: u64 = 1 << 32;
 
+/// The status where the system did not give what the program needs to start.
+const SYSTEM_FAULT: u8 = 9;
+
 /// No word of a command is longer, in bytes.
 const LONGEST_WORD: usize = 16384;
 
@@ -32,7 +35,7 @@ fn main(rt: HostRuntime) -> ExitCode {
     let status = match start(&rt) {
         Ok(status) => status,
         Err(Refused::Memory) => status::NO_MEMORY,
-        Err(Refused::System) => status::SYSTEM_FAULT,
+        Err(Refused::System) => SYSTEM_FAULT,
     };
     if let Some(meaning) = meaning_of(status) {
         let _ = rt.eprintln(meaning);
@@ -96,7 +99,7 @@ fn meaning_of(status: u8) -> Option<&'static str> {
         status::OUTPUT_FAULT => Some("output fault"),
         status::NO_MEMORY => Some("out of memory"),
         status::INPUT_TOO_LONG => Some("input too long"),
-        status::SYSTEM_FAULT => Some("system fault"),
+        SYSTEM_FAULT => Some("system fault"),
         _ => None,
     }
 }

@@ -1,10 +1,8 @@
 -- A command over an open store, and its close.
-use Rattle.std.proofs.Common.{◌≡◌, ℕ, List, [], Ok, Err, refl, sym, ap, subst, ◌∙◌, arith, ◌⊎◌, inl, inr, append-nil, length-append}
-use Rattle.std.specs.Prelude.{codes}
+use Rattle.std.proofs.Common.{◌≡◌, ℕ, Ok, refl, sym, ap, subst, ◌∙◌, arith, ◌⊎◌, inl, inr}
 use Rattle.std.proofs.lemmas.Bool.{cases_Bool}
 use Rattle.vbm_ports.specs.Files.{Files}
-use Rattle.vbm_ports.specs.Disk.{DiskState, Passes, OnlyReads}
-use Rattle.vbm_ports.specs.Stream.{IsProperPrefix}
+use Rattle.vbm_ports.specs.Disk.{DiskState, Passes, OnlyReads, IsCoherent}
 use Rattle.vbm_ports.proofs.States.{Passes-trans}
 use Rattle.vbm_world.specs.declared.command.Command.{Command}
 use Rattle.vbm_world.specs.declared.command.Command.TheVariants.{CreateMedium, OpenMedium, CloseMedium, ShowMediumInfo, ListHdds}
@@ -12,20 +10,20 @@ use Rattle.vbm_world.specs.declared.command.Answer.{Answer}
 use Rattle.vbm_world.specs.World.{World, off}
 use Rattle.vbm_world.specs.Step.{Outcome, step_of}
 use Rattle.vbm_world.specs.Loose.{Unsettled, all_settled, is_refused, left_unsettled, unsettled_after}
-use Rattle.vbm_world.specs.Texts.{text_of, line_of}
+use Rattle.vbm_world.specs.Texts.{line_of}
 use Rattle.vbm_registry.specs.Stands.{Stands}
-use Rattle.vbm_registry.specs.declared.fault.BadStore.{BadStore}
-use Rattle.vbm_registry.proofs.Stores.{stands_once}
 use Rattle.vbm_engine.specs.declared.engine.Engine.{Engine}
-use Rattle.vbm_engine.specs.declared.engine.Opened.{Opened}
 use Rattle.vbm_engine.specs.declared.engine.Opened.TheVariants.{Open, Fault}
 use Rattle.vbm_engine.specs.Serves.{serves, IsSoundEngine, IsReady, StandsLoosely}
 use Rattle.vbm_engine.specs.Steps.{Advances, Stays, IsInStep}
-use Rattle.vbm_engine.specs.Opens.{StandsAlike, AreRedone, SyncsFirst}
+use Rattle.vbm_engine.specs.Opens.{StandsAlike, SyncsFirst}
 use Rattle.vbm_engine.proofs.Openings.{syncs_goes_on, opened_synced}
 use Rattle.vbm_engine.proofs.Readiness.{off_at_rest, ready_stands}
 use Rattle.vbm_engine.proofs.Turning.{before_step}
-use Rattle.vbm_top.specs.Run.{status_of, store_line, Writes, Says, CommandEnds, faulty, answered, unclosed, unanswered, broken, IsAnswered, IsUnclosed, IsClosed, Closes, IsInRun, IsOfCommand, SyncsOrFails}
+use Rattle.vbm_top.specs.declared.status.Status.{Status}
+use Rattle.vbm_top.specs.declared.status.Status.TheVariants.{NoMemory}
+use Rattle.vbm_top.specs.Streams.{Stream}
+use Rattle.vbm_top.specs.Run.{status_of, IsSilent, Says, CommandEnds, answered, unclosed, undone, broken, IsAnswered, IsUnclosed, IsUndone, IsClosed, LeavesServed, Closes, IsInRun, IsOfCommand, SyncsOrFails}
 
 -- ---- what commands leave unsettled
 
@@ -47,9 +45,15 @@ same_step w (CloseMedium name delete) n = refl
 same_step w (ShowMediumInfo name) n = refl
 same_step w ListHdds n = refl
 
--- nothing is a proper prefix of a line
-none_of_line : (a : Answer) → IsProperPrefix [] (line_of a)
-none_of_line a = record { len = 0; shorter = omega (arith, length-append (text_of a) (codes "\n")); is = refl }
+-- ---- a close
+
+pub leaves_served : {tells : Type 0} {e : Engine} {old new : DiskState} → IsSoundEngine e → IsCoherent tells old → IsCoherent tells new
+    → ((u : Unsettled) → IsReady e old u → Passes old new (StandsLoosely (off (serves e old.files)) u)) → LeavesServed e old new
+leaves_served {e = e} {old = old} sound laws laws2 passes u ready image may =
+    elim ((passes u ready).only old.moment image (omega arith) (laws2.counts_now old.moment image (passes u ready).later may)) [
+      | inl was ↦ ready_stands e old u sound ready image (laws.only_now image was)
+      | inr now ↦ now
+    ]
 
 -- ---- an answer
 
@@ -68,29 +72,22 @@ module _ (tells : Type 0) (files : Files) (e next : Engine) (c : Command) (a : A
     settled = closed.settled;
   }
 
-  is_unclosed : (tells → Stands files (Ok (serves e d1.files))) → IsSoundEngine next → OnlyReads tells d2 d3 → tells → IsUnclosed c files a d3
-  is_unclosed stood sound reads t = record {
+  is_unclosed : (tells → Stands files (Ok (serves e d1.files))) → (tells → LeavesServed next d2 d3) → tells → IsUnclosed c files a d3
+  is_unclosed stood leaves t = record {
     world = serves e d1.files;
     stood = stood t;
     number = (advances t).number;
     is_answer = ap (λ (o : Outcome). o.0) (advances t).by;
     images = λ image may. subst (λ w. StandsLoosely (off w) all_settled image) (ap (λ (o : Outcome). o.1) (advances t).by)
-        (ready_stands next d2 all_settled sound (ready_after t) image (reads.images image may));
+        (leaves t all_settled (ready_after t) image may);
   }
 
-  pub next_ends : (told : Type 0) (wanted status : ℕ) (was now : List ℕ) → (tells → Stands files (Ok (serves e d1.files))) → IsSoundEngine next
-      → OnlyReads tells d2 d3 → Says told (line_of a) (status_of a) wanted was now → Closes tells next d2 d3 wanted status
-      → CommandEnds tells told c files d3 status was now
-  next_ends told wanted status was now stood sound reads (inl writes) (inl kept) =
-      answered a (λ t. is_answered stood t (kept.1 t)) (subst (λ s. Writes told (line_of a) (status_of a) s was now) (sym kept.0) writes)
-  next_ends told wanted status was now stood sound reads (inr none) (inl kept) =
-      unanswered (kept.0 ∙ none.0) none.1 (λ t. inr (inr (a, is_answered stood t (kept.1 t))))
-  next_ends told wanted status was now stood sound reads (inl (inl whole)) (inr fails) =
-      unclosed a (is_unclosed stood sound reads) fails.0 (λ t. inl (whole.1 t))
-  next_ends told wanted status was now stood sound reads (inl (inr part)) (inr fails) =
-      unclosed a (is_unclosed stood sound reads) fails.0 (λ t. inr (part.1 t))
-  next_ends told wanted status was now stood sound reads (inr none) (inr fails) =
-      unclosed a (is_unclosed stood sound reads) fails.0 (λ t. inr ([], none_of_line a, none.1 t ∙ sym (append-nil was)))
+  pub next_ends : (sink : Stream) (wanted status : Status) → (tells → Stands files (Ok (serves e d1.files)))
+      → (tells → LeavesServed next d2 d3) → Says sink (line_of a) (status_of a) wanted → Closes tells next d2 d3 wanted status
+      → CommandEnds tells c files d3 sink status
+  next_ends sink wanted status stood leaves says (inl kept) =
+      answered a (λ t. is_answered stood t (kept.1 t)) (subst (Says sink (line_of a) (status_of a)) (sym kept.0) says)
+  next_ends sink wanted status stood leaves says (inr fails) = unclosed a wanted (is_unclosed stood leaves) says fails.0
 
   pub next_passes : tells → Passes d1 d2 (IsInStep (serves e d1.files) c all_settled)
       → ((u : Unsettled) → IsReady next d2 u → Passes d2 d3 (StandsLoosely (off (serves next d2.files)) u))
@@ -107,15 +104,18 @@ module _ (tells : Type 0) (files : Files) (e next : Engine) (c : Command) (a : A
 -- ---- no memory for a step
 
 module _ (tells : Type 0) (files : Files) (e same : Engine) (c : Command) (d1 d2 d3 : DiskState) (stays : tells → Stays d1 d2 e same) where
-  pub memory_ends : (told : Type 0) (wanted status : ℕ) (was now : List ℕ) → (tells → Stands files (Ok (serves e d1.files))) → wanted ≡ 6
-      → (told → now ≡ was) → Closes tells same d2 d3 wanted status → CommandEnds tells told c files d3 status was now
-  memory_ends told wanted status was now stood six none (inl kept) = unanswered (kept.0 ∙ six) none (λ t. inl (alike t (kept.1 t)))
+  pub memory_ends : (sink : Stream) (wanted status : Status) → (tells → Stands files (Ok (serves e d1.files))) → wanted ≡ NoMemory → IsSilent sink
+      → Closes tells same d2 d3 wanted status → CommandEnds tells c files d3 sink status
+  memory_ends sink wanted status stood six none (inl kept) = undone (λ t. is_undone t (kept.1 t)) none (kept.0 ∙ six)
     where
-      alike : tells → IsClosed same d2 d3 → StandsAlike files d3.files
-      alike t closed held stands =
-          subst (Stands d3.files) (stands_once files (Ok (serves e d1.files)) held (stood t) stands)
-          (subst (λ w. Stands d3.files (Ok w)) (ap off (stays t).same ∙ off_at_rest e.library d1.files) closed.stands)
-  memory_ends told wanted status was now stood six none (inr fails) = broken fails.0 none
+      is_undone : tells → IsClosed same d2 d3 → IsUndone files d3
+      is_undone t closed = record {
+        world = serves e d1.files;
+        stood = stood t;
+        stands = subst (λ w. Stands d3.files (Ok w)) (ap off (stays t).same ∙ off_at_rest e.library d1.files) closed.stands;
+        settled = closed.settled;
+      }
+  memory_ends sink wanted status stood six none (inr fails) = broken none fails.0
 
   pub memory_passes : tells → ((u : Unsettled) → IsReady e d1 u) → Passes d1 d2 (IsInStep (serves e d1.files) c all_settled)
       → ((u : Unsettled) → IsReady same d2 u → Passes d2 d3 (StandsLoosely (off (serves same d2.files)) u))
@@ -125,12 +125,6 @@ module _ (tells : Type 0) (files : Files) (e same : Engine) (c : Command) (d1 d2
       (λ image is. before_step (serves e d1.files) c all_settled image (subst (λ w. StandsLoosely (off w) all_settled image) (stays t).same is))
 
 -- ---- the whole run
-
-pub refused_ends : (tells told : Type 0) (c : Command) (files : Files) (new : DiskState) (bad : BadStore) (status : ℕ) (was now : List ℕ)
-    → (tells → Stands files (Err bad) × AreRedone files new.files) → Says told (store_line bad) 7 status was now
-    → CommandEnds tells told c files new status was now
-refused_ends tells told c files new bad status was now is (inl writes) = faulty bad is writes
-refused_ends tells told c files new bad status was now is (inr none) = unanswered none.0 none.1 (λ t. inr (inl (bad, (is t).0, (is t).1)))
 
 -- an image of the opening
 pub opened_image : (c : Command) (old : DiskState) (image : Files) → old.may_leave image ⊎ StandsAlike old.files image → IsInRun c old image
@@ -143,14 +137,7 @@ pub run_passes : (c : Command) (e : Engine) (old mid new : DiskState) → Stands
 run_passes c e old mid new stood first second =
     Passes-trans old mid new _ _ _ first second (opened_image c old) (λ image is. inr (inr (serves e mid.files, stood, is)))
 
-pub opening_syncs : (tells : Type 0) (c : Command) (old new : DiskState) (opened : Opened) (status : ℕ) → (opened ≡ Fault → status ≡ 3)
-    → SyncsFirst old new (StandsAlike old.files) ⊎ ((opened ≡ Fault) × OnlyReads tells old new)
-    → SyncsOrFails tells old new status (IsOfCommand c old.files)
-opening_syncs tells c old new opened status three (inl first) =
-    inl (record { later = first.later; since = λ image left. inl (first.since image left) })
-opening_syncs tells c old new opened status three (inr fails) = inr (inl (three fails.0), fails.1)
-
-pub run_syncs : (tells : Type 0) (c : Command) (e : Engine) (old mid new : DiskState) (status : ℕ) → Stands old.files (Ok (serves e mid.files))
+pub run_syncs : (tells : Type 0) (c : Command) (e : Engine) (old mid new : DiskState) (status : Status) → Stands old.files (Ok (serves e mid.files))
     → SyncsFirst old mid (StandsAlike old.files) ⊎ ((Open e ≡ Fault) × OnlyReads tells old mid)
     → Passes mid new (IsInStep (serves e mid.files) c all_settled)
     → SyncsOrFails tells old new status (IsOfCommand c old.files)

@@ -1,6 +1,6 @@
 -- A run of a script on its way.
 use Rattle.std.proofs.Common.{◌≡◌, ◌≤◌, ℕ, Bool, true, false, List, [], ◌∷◌, ◌++◌, length, Option, Some, None, refl, sym, ap, subst, ◌∙◌, arith, inl, inr, append-nil, append_assoc, length-append}
-use Rattle.std.specs.Prelude.{option_to_list, max, if◌then◌else◌, ◌||◌}
+use Rattle.std.specs.Prelude.{option_to_list, if◌then◌else◌, ◌||◌}
 use Rattle.std.specs.List.{list_any}
 use Rattle.std.proofs.lemmas.List.Folds.{list_any-append}
 use Rattle.vbm_ports.specs.Files.{Files}
@@ -10,31 +10,37 @@ use Rattle.vbm_world.specs.declared.command.Answer.{Answer}
 use Rattle.vbm_world.specs.World.{World, off}
 use Rattle.vbm_world.specs.Step.{Outcome, step_of}
 use Rattle.vbm_world.specs.Texts.{line_of}
-use Rattle.vbm_lines.specs.Lines.{Line, read_lines}
+use Rattle.vbm_lines.specs.Lines.{Line, read_lines, lines_done}
 use Rattle.vbm_world.specs.Loose.{Unsettled, all_settled, is_refused}
-use Rattle.vbm_world.specs.Runs.{Does, skips, refuses, steps, Runs}
+use Rattle.vbm_world.specs.Runs.{Untied, Does, skips, refuses, steps, Runs}
 use Rattle.vbm_lines.specs.Inputs.{AreFirst, AreRead}
 use Rattle.vbm_lines.specs.Reader.{Reader, new_reader, IsAt}
 use Rattle.vbm_lines.proofs.Readers.{starts_at, are_read}
 use Rattle.vbm_engine.specs.declared.engine.Engine.{Engine}
 use Rattle.vbm_engine.specs.Serves.{serves, IsReady, StandsLoosely}
 use Rattle.vbm_top.specs.declared.serving.Turned.TheVariants.{Open}
+use Rattle.vbm_top.specs.declared.status.Status.{Status}
+use Rattle.vbm_top.specs.declared.status.Status.TheVariants.{Done, Refused, OutputFault, NoMemory}
+use Rattle.vbm_top.specs.Statuses.{is_disk_fault, ends_run, worse}
+use Rattle.vbm_top.specs.Streams.{Moment, Stream, Streams, streams}
 use Rattle.vbm_top.specs.Run.{status_of}
-use Rattle.vbm_top.specs.Script.{texts_of, status_of_all, IsReached}
+use Rattle.vbm_top.specs.Script.{texts_of, status_of_all, AreSaid, IsReached}
 use Rattle.vbm_top.specs.Turns.{IsPast, TurnsLine, IsAtLine}
 use Rattle.vbm_top.proofs.Commands.{same_step}
+use Rattle.vbm_top.proofs.Counted.{refusal_no_fault}
 
 -- ---- one line more
 
 pub runs_more : (w : World) (u : Unsettled) (lines : List Line) (answers : List Answer) (last : World) (left : Unsettled) (line : Line)
-    (answer : Option Answer) (next : World) (left2 : Unsettled) → Runs w u lines answers last left → Does last left line answer next left2
-    → Runs w u (lines ++ line ∷ []) (answers ++ option_to_list answer) next left2
+    (answer : Option Answer) (next : World) (left2 : Unsettled) → Runs Untied w u lines answers last left
+    → Does Untied last left line answer next left2
+    → Runs Untied w u (lines ++ line ∷ []) (answers ++ option_to_list answer) next left2
 runs_more w u [] answers last left line answer next left2 r d = (
   answer,
   next,
   left2,
   [],
-  subst (λ v. Does w v line answer next left2) r.2 (subst (λ v. Does v left line answer next left2) r.1 d),
+  subst (λ v. Does Untied w v line answer next left2) r.2 (subst (λ v. Does Untied v left line answer next left2) r.1 d),
   ap (λ xs. xs ++ option_to_list answer) r.0 ∙ sym (append-nil (option_to_list answer)),
   (refl, refl, refl),
 )
@@ -56,53 +62,66 @@ texts_more (a ∷ answers) more =
 text_of_one : (a : Answer) → texts_of (a ∷ []) ≡ line_of a
 text_of_one a = append-nil (line_of a)
 
-abbrev status_if : Bool → ℕ
-status_if b = if b then 1 else 0
+abbrev status_if : Bool → Status
+status_if refused = if refused then Refused else Done
 
-one_refusal : (b : Bool) → status_if b ≡ status_if (b || false)
+one_refusal : (refused : Bool) → status_if refused ≡ status_if (refused || false)
 one_refusal true = refl
 one_refusal false = refl
 
 status_of_one : (a : Answer) → status_of a ≡ status_of_all (a ∷ [])
 status_of_one a = one_refusal (is_refused a)
 
-at_most_one : (b : Bool) → status_if b ≤ 1
-at_most_one true = omega arith
-at_most_one false = omega arith
+goes_on_if : (refused : Bool) → ends_run (status_if refused) ≡ false
+goes_on_if true = refl
+goes_on_if false = refl
 
-pub status_small : (a : Answer) → status_of a ≤ 1
-status_small a = at_most_one (is_refused a)
+-- a line whose answer was written is not the last
+pub answer_goes_on : (a : Answer) → ends_run (status_of a) ≡ false
+answer_goes_on a = goes_on_if (is_refused a)
 
-pub status_of_all_small : (answers : List Answer) → status_of_all answers ≤ 1
-status_of_all_small answers = at_most_one (list_any is_refused answers)
+pub no_disk_fault_of_all : (answers : List Answer) → is_disk_fault (status_of_all answers) ≡ false
+no_disk_fault_of_all answers = refusal_no_fault (list_any is_refused answers)
 
-one_status : (a b : Bool) → status_if (a || b) ≡ max (status_if a) (status_if b)
+-- such a status does not end a run, and this one does
+pub last_or_not : {P : Type 0} (said is : Status) → ends_run said ≡ false → said ≡ is → ends_run is ≡ true → P
+last_or_not said is goes same ends = let both : true ≡ false = sym ends ∙ sym (ap ends_run same) ∙ goes in absurd cc
+
+one_status : (a b : Bool) → status_if (a || b) ≡ worse (status_if a) (status_if b)
 one_status true true = refl
 one_status true false = refl
 one_status false true = refl
 one_status false false = refl
 
-pub status_more : (answers more : List Answer) → status_of_all (answers ++ more) ≡ max (status_of_all answers) (status_of_all more)
+pub status_more : (answers more : List Answer) → status_of_all (answers ++ more) ≡ worse (status_of_all answers) (status_of_all more)
 status_more answers more =
     ap status_if (list_any-append is_refused answers more) ∙ one_status (list_any is_refused answers) (list_any is_refused more)
 
 fewer : (all lines more : List Line) → AreFirst all (lines ++ more) → AreFirst all lines
 fewer all lines more first = (more ++ first.0, first.1 ∙ append_assoc lines more first.0)
 
-pub fewer_read : (input rest : List ℕ) (lines more : List Line) → AreRead input rest (lines ++ more) → AreRead input rest lines
-fewer_read input rest lines more read = record {
+pub fewer_read : (most : ℕ) (input rest : List ℕ) (lines more : List Line) → AreRead most input rest (lines ++ more)
+    → AreRead most input rest lines
+fewer_read most input rest lines more read = record {
   taken = read.taken;
   split = read.split;
-  of_input = fewer (read_lines input) lines more read.of_input;
+  bound = read.bound;
+  of_input = fewer (lines_done most input) lines more read.of_input;
   of_taken = fewer (read_lines read.taken) lines more read.of_taken;
 }
 
+-- a reader of so many bytes
+pub were_read : (most : ℕ) (r : Reader) (input rest : List ℕ) (lines : List Line) → r.most ≡ most → IsAt r input rest lines
+    → AreRead most input rest lines
+were_read most r input rest lines is at = subst (λ m. AreRead m input rest lines) is (are_read r input rest lines at)
+
 -- ---- images of a run
 
-module _ {given : Type 0} {world : World} {input : List ℕ} (lines : List Line) (answers : List Answer) (last : World) (left : Unsettled)
-    (runs : Runs world all_settled lines answers last left) (n : ℕ) (out : length answers ≤ n) (image : Files) where
+module _ {given : Type 0} {most : ℕ} {world : World} {input : List ℕ} (lines : List Line) (answers : List Answer) (last : World) (left : Unsettled)
+    (runs : Runs Untied world all_settled lines answers last left) (n : ℕ) (out : length answers ≤ n) (image : Files) where
   -- of the world that was reached
-  pub stands_reached : (given → AreFirst (read_lines input) lines) → StandsLoosely (off last) left image → IsReached given world input n image
+  pub stands_reached : (given → AreFirst (lines_done most input) lines) → StandsLoosely (off last) left image
+      → IsReached given most world input n image
   stands_reached first stands = record {
     lines = lines;
     answers = answers;
@@ -114,9 +133,9 @@ module _ {given : Type 0} {world : World} {input : List ℕ} (lines : List Line)
   }
 
   -- of the next line
-  pub line_reached : (line : Line) → (given → AreFirst (read_lines input) (lines ++ line ∷ [])) → IsAtLine last line left image
-      → IsReached given world input n image
-  line_reached line first (inl stands) = stands_reached (λ g. fewer (read_lines input) lines (line ∷ []) (first g)) stands
+  pub line_reached : (line : Line) → (given → AreFirst (lines_done most input) (lines ++ line ∷ [])) → IsAtLine last line left image
+      → IsReached given most world input n image
+  line_reached line first (inl stands) = stands_reached (λ g. fewer (lines_done most input) lines (line ∷ []) (first g)) stands
   line_reached line first (inr step) = record {
     lines = lines;
     answers = answers;
@@ -128,8 +147,9 @@ module _ {given : Type 0} {world : World} {input : List ℕ} (lines : List Line)
   }
 
 -- more answers were written
-pub longer_reached : {given : Type 0} {world : World} {input : List ℕ} (n m : ℕ) (image : Files) → n ≤ m → IsReached given world input n image
-    → IsReached given world input m image
+pub longer_reached : {given : Type 0} {most : ℕ} {world : World} {input : List ℕ} (n m : ℕ) (image : Files) → n ≤ m
+    → IsReached given most world input n image
+    → IsReached given most world input m image
 longer_reached n m image more is = record {
   lines = is.lines;
   answers = is.answers;
@@ -142,80 +162,100 @@ longer_reached n m image more is = record {
 
 -- an image of the world after a line
 pub after_line : (w : World) (u : Unsettled) (line : Line) (answer : Option Answer) (next : World) (left : Unsettled) (image : Files)
-    → Does w u line answer next left → StandsLoosely (off next) left image → IsAtLine w line u image
+    → Does Untied w u line answer next left → StandsLoosely (off next) left image → IsAtLine w line u image
 after_line w u line answer next left image (skips is none same kept) stands =
     inl (subst (λ v. StandsLoosely (off w) v image) kept (subst (λ v. StandsLoosely (off v) left image) same stands))
 after_line w u line answer next left image (refuses is none same kept) stands =
     inl (subst (λ v. StandsLoosely (off w) v image) kept (subst (λ v. StandsLoosely (off v) left image) same stands))
-after_line w u line answer next left image (steps c number is given to kept) stands =
+after_line w u line answer next left image (steps c number is tied given to kept) stands =
     let after : next ≡ (step_of w c 0).1 = to ∙ ap (λ (o : Outcome). o.1) (same_step w c number) in
     inr (c, is, inr (subst (λ v. StandsLoosely (off (step_of w c 0).1) v image) kept (subst (λ v. StandsLoosely (off v) left image) after stands)))
 
 -- ---- where a run is
 
+-- later moments of the streams
+abbrev pub later : Streams → Moment → Moment → Streams
+later s source sink = record {
+  source = record { tells = s.source.tells; was = s.source.was; now = source };
+  sink = record { tells = s.sink.tells; was = s.sink.was; now = sink };
+}
+
+-- a stream from now on
+abbrev pub onwards : Stream → Moment → Stream
+onwards stream moment = record { tells = stream.tells; was = stream.now; now = moment }
+
 -- On the disk: the world that the lines led to, ready, and no image ahead of the answers.
-pub record IsOnDisk (given : Type 0) (input : List ℕ) (first : DiskState) (world : World) (lines : List Line) (answers : List Answer)
+pub record IsOnDisk (given : Type 0) (most : ℕ) (input : List ℕ) (first : DiskState) (world : World) (lines : List Line) (answers : List Answer)
     (now : DiskState) (e : Engine) : Type 0 where
   pub left : Unsettled
-  pub runs : Runs world all_settled lines answers (serves e now.files) left
+  pub runs : Runs Untied world all_settled lines answers (serves e now.files) left
   pub ready : IsReady e now left
-  pub passes : Passes first now (IsReached given world input (length answers))
+  pub passes : Passes first now (IsReached given most world input (length answers))
 
--- These lines were read, and these answers written.
-pub record IsGoing (tells told given : Type 0) (most : ℕ) (input was : List ℕ) (first : DiskState) (world : World)
-    (reader : Reader) (rest written : List ℕ) (now : DiskState) (e : Engine) (status : ℕ) : Type 0 where
+-- These lines were read, and these answers written, and no device failed.
+pub record IsGoing (tells : Type 0) (most : ℕ) (s : Streams) (first : DiskState) (world : World) (reader : Reader) (now : DiskState) (e : Engine)
+    (status : Status) : Type 0 where
   pub lines : List Line
   pub answers : List Answer
-  pub at : given → IsAt reader input rest lines
+  pub at : s.source.tells → IsAt reader s.source.was.bytes s.source.now.bytes lines
+  pub no_fault : s.source.now.faults ≡ s.source.was.faults
   pub is_most : reader.most ≡ most
-  pub out : told → written ≡ was ++ texts_of answers
+  pub out : AreSaid s.sink answers
   pub is_status : status ≡ status_of_all answers
-  pub on_disk : tells → IsOnDisk given input first world lines answers now e
+  pub disk : now.faults ≡ first.faults
+  pub on_disk : tells → IsOnDisk s.source.tells most s.source.was.bytes first world lines answers now e
 
-module _ {tells told given : Type 0} {most : ℕ} where
-  pub starts : (input was : List ℕ) (s : DiskState) (e : Engine) → (tells → (u : Unsettled) → IsReady e s u)
-      → IsGoing tells told given most input was s (serves e s.files) (new_reader most) input was s e 0
-  starts input was s e ready = record {
+module _ {tells : Type 0} {most : ℕ} where
+  pub starts : (given told : Type 0) (source sink : Moment) (s : DiskState) (e : Engine) → (tells → (u : Unsettled) → IsReady e s u)
+      → IsGoing tells most (streams (record { tells = given; was = source; now = source }) (record { tells = told; was = sink; now = sink })) s
+      (serves e s.files) (new_reader most) s e Done
+  starts given told source sink s e ready = record {
     lines = [];
     answers = [];
-    at = λ g. starts_at most input;
+    at = λ g. starts_at most source.bytes;
+    no_fault = refl;
     is_most = refl;
-    out = λ t. sym (append-nil was);
+    out = (λ t. sym (append-nil sink.bytes), refl);
     is_status = refl;
+    disk = refl;
     on_disk = λ t. record { left = all_settled; runs = (refl, refl, refl); ready = ready t all_settled; passes = Passes-refl s _ };
   }
 
-  module _ {input was : List ℕ} {first : DiskState} {world : World} {reader reader2 : Reader} {rest rest2 written : List ℕ}
-      {s : DiskState} {e : Engine} {status : ℕ} (line : Line)
-      (g : IsGoing tells told given most input was first world reader rest written s e status)
-      (asks : given → IsAt reader2 input rest2 (g.lines ++ line ∷ [])) where
-    next_lines : given → AreFirst (read_lines input) (g.lines ++ line ∷ [])
-    next_lines t = (are_read reader2 input rest2 (g.lines ++ line ∷ []) (asks t)).of_input
+  module _ {io : Streams} {first : DiskState} {world : World} {reader reader2 : Reader} {rest : List ℕ} {s : DiskState} {e : Engine}
+      {status : Status} (line : Line) (g : IsGoing tells most io first world reader s e status)
+      (asks : io.source.tells → IsAt reader2 io.source.was.bytes rest (g.lines ++ line ∷ [])) (is_most : reader2.most ≡ most) where
+    next_lines : io.source.tells → AreFirst (lines_done most io.source.was.bytes) (g.lines ++ line ∷ [])
+    next_lines t = (were_read most reader2 io.source.was.bytes rest (g.lines ++ line ∷ []) is_most (asks t)).of_input
 
     -- the images so far and those of the line
     pub line_passes : (s2 : DiskState) (t : tells) → ((u : Unsettled) → IsReady e s u → Passes s s2 (IsAtLine (serves e s.files) line u))
-        → Passes first s2 (IsReached given world input (length g.answers))
+        → Passes first s2 (IsReached io.source.tells most world io.source.was.bytes (length g.answers))
     line_passes s2 t passes =
         let d = g.on_disk t in
         Passes-trans first s s2 _ _ _ d.passes (passes d.left d.ready) (λ image is. is)
         (λ image is. line_reached g.lines g.answers (serves e s.files) d.left d.runs (length g.answers) (omega arith) image line next_lines is)
 
     -- the line is done, and its answer, if it has one, was written
-    pub goes_on : (s2 : DiskState) (next : Engine) (written2 : List ℕ) (answer : Option Answer) → (tells → IsPast s s2 e next line answer)
-        → reader2.most ≡ most → (told → written2 ≡ written ++ texts_of (option_to_list answer)) → (said : ℕ)
-        → said ≡ status_of_all (option_to_list answer)
+    pub goes_on : {faults : ℕ} (s2 : DiskState) (next : Engine) (sink : Moment) (answer : Option Answer) → (tells → IsPast s s2 e next line answer)
+        → faults ≡ io.source.now.faults → AreSaid (onwards io.sink sink) (option_to_list answer)
+        → (said : Status) → said ≡ status_of_all (option_to_list answer) → s2.faults ≡ s.faults
         → (tells → (u : Unsettled) → IsReady e s u → Passes s s2 (IsAtLine (serves e s.files) line u))
-        → IsGoing tells told given most input was first world reader2 rest2 written2 s2 next (max status said)
-    goes_on s2 next written2 answer past is_most says said is passes = record {
+        → IsGoing tells most (later io (record { bytes = rest; faults = faults }) sink) first world reader2 s2 next (worse status said)
+    goes_on s2 next sink answer past no_fault says said is disk passes = record {
       lines = g.lines ++ line ∷ [];
       answers = g.answers ++ option_to_list answer;
       at = asks;
+      no_fault = no_fault ∙ g.no_fault;
       is_most = is_most;
-      out = λ t. says t ∙ ap (λ xs. xs ++ texts_of (option_to_list answer)) (g.out t)
-          ∙ append_assoc was (texts_of g.answers) (texts_of (option_to_list answer))
-          ∙ ap (λ xs. was ++ xs) (sym (texts_more g.answers (option_to_list answer)));
-      is_status = ap (λ n. max n said) g.is_status ∙ ap (λ n. max (status_of_all g.answers) n) is
+      out = (
+        λ t. says.0 t ∙ ap (λ xs. xs ++ texts_of (option_to_list answer)) (g.out.0 t)
+            ∙ append_assoc io.sink.was.bytes (texts_of g.answers) (texts_of (option_to_list answer))
+            ∙ ap (λ xs. io.sink.was.bytes ++ xs) (sym (texts_more g.answers (option_to_list answer))),
+        says.1 ∙ g.out.1,
+      );
+      is_status = ap (λ n. worse n said) g.is_status ∙ ap (λ n. worse (status_of_all g.answers) n) is
           ∙ sym (status_more g.answers (option_to_list answer));
+      disk = disk ∙ g.disk;
       on_disk = λ t.
           let d = g.on_disk t in
           let does = (past t).does d.left d.ready in
@@ -235,15 +275,16 @@ module _ {tells told given : Type 0} {most : ℕ} where
         more = omega (arith, length-append g.answers (option_to_list answer))
 
     -- the line is done, and its answer's line was written whole
-    pub line_goes_on : (s2 : DiskState) (next : Engine) (written2 : List ℕ) → reader2.most ≡ most → (said : ℕ) → said ≤ 1
-        → TurnsLine tells told s s2 e line (Open next said) written written2
+    pub line_goes_on : {faults : ℕ} (s2 : DiskState) (next : Engine) (sink : Moment) → faults ≡ io.source.now.faults
+        → (said : Status) → ends_run said ≡ false → TurnsLine tells s s2 e line (Open next said) (onwards io.sink sink) → s2.faults ≡ s.faults
         → (tells → (u : Unsettled) → IsReady e s u → Passes s s2 (IsAtLine (serves e s.files) line u))
-        → IsGoing tells told given most input was first world reader2 rest2 written2 s2 next (max status said)
-    line_goes_on s2 next written2 is_most said few (inl (None, says, past)) passes =
-        goes_on s2 next written2 None past is_most (λ t. says.1 t ∙ sym (append-nil written)) said says.0 passes
-    line_goes_on s2 next written2 is_most said few (inl (Some a, inl (inl whole), past)) passes =
-        goes_on s2 next written2 (Some a) past is_most (λ t. whole.1 t ∙ ap (λ xs. written ++ xs) (sym (text_of_one a))) said
-        (whole.0 ∙ status_of_one a) passes
-    line_goes_on s2 next written2 is_most said few (inl (Some a, inl (inr part), past)) passes = absurd (omega (arith, few, part.0))
-    line_goes_on s2 next written2 is_most said few (inl (Some a, inr none, past)) passes = absurd (omega (arith, few, none.0))
-    line_goes_on s2 next written2 is_most said few (inr none) passes = absurd (omega (arith, few, none.0))
+        → IsGoing tells most (later io (record { bytes = rest; faults = faults }) sink) first world reader2 s2 next (worse status said)
+    line_goes_on s2 next sink no_fault said goes (inl (None, says, past)) disk passes =
+        goes_on s2 next sink None past no_fault (λ t. says.1.0 t ∙ sym (append-nil io.sink.now.bytes), says.1.1) said says.0 disk passes
+    line_goes_on s2 next sink no_fault said goes (inl (Some a, inl (inl whole), past)) disk passes =
+        goes_on s2 next sink (Some a) past no_fault
+        (λ t. whole.1.0 t ∙ ap (λ xs. io.sink.now.bytes ++ xs) (sym (text_of_one a)), whole.1.1) said (whole.0 ∙ status_of_one a) disk passes
+    line_goes_on s2 next sink no_fault said goes (inl (Some a, inl (inr part), past)) disk passes =
+        last_or_not said OutputFault goes part.0 refl
+    line_goes_on s2 next sink no_fault said goes (inl (Some a, inr none, past)) disk passes = last_or_not said NoMemory goes none.0 refl
+    line_goes_on s2 next sink no_fault said goes (inr none) disk passes = last_or_not said NoMemory goes none.0 refl

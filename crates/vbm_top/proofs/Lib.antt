@@ -1,6 +1,8 @@
 mod Peeks
 mod Forms
 mod Lines
+mod Syncs
+mod Counted
 mod Commands
 mod Going
 mod Ending

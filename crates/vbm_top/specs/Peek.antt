@@ -1,5 +1,5 @@
 -- What is answered where a sector of a chain of files is asked for.
-use Rattle.std.specs.Prelude.{◌≡◌, ℕ, nat_le, if◌then◌else◌, List, [], ◌∷◌, Option, Some, None, Result, Ok, Err}
+use Rattle.std.specs.Prelude.{◌≡◌, ℕ, nat_le, if◌then◌else◌, Bool, true, false, List, [], ◌∷◌, Option, Some, None, Result, Ok, Err}
 use Rattle.std.specs.Option.{option_map}
 use Rattle.vbm_header.specs.declared.BadImage.{BadImage}
 use Rattle.vbm_header.specs.declared.Header.{Header}
@@ -56,6 +56,13 @@ Tells (Sector bytes) answer = answer ≡ Ok bytes
 Tells (Refused refusal) answer = answer ≡ Err refusal
 Tells Failed answer = Unit {0}
 Tells NoMemory answer = Unit {0}
+
+-- the disk failed
+abbrev pub peek_failed : PeekResult → Bool
+peek_failed (Sector bytes) = false
+peek_failed (Refused refusal) = false
+peek_failed Failed = true
+peek_failed NoMemory = false
 
 -- the answer of the program: a sector, or a refusal
 abbrev pub answer_of : Peeked → Answer

@@ -1,9 +1,9 @@
 -- A run of the program: one command in words.
-use Rattle.std.specs.Prelude.{◌≡◌, ℕ, ◌<◌, ◌^◌, ◌⊎◌, List, [], ◌∷◌, ◌++◌, length, Ok, Err, IsTrue, if◌then◌else◌, codes, decimal}
+use Rattle.std.specs.Prelude.{◌≡◌, ℕ, ◌<◌, ◌^◌, ◌⊎◌, true, false, List, [], ◌∷◌, ◌++◌, Ok, Err, IsTrue, if◌then◌else◌, codes, decimal}
 use Rattle.vbm_ports.specs.Names.{is_medium_name}
 use Rattle.vbm_ports.specs.Files.{Files}
-use Rattle.vbm_ports.specs.Disk.{DiskState, OnlyReads}
-use Rattle.vbm_ports.specs.Counts.{Rose}
+use Rattle.vbm_ports.specs.Disk.{DiskState, Passes, OnlyReads}
+use Rattle.vbm_ports.specs.Counts.{IsCounted}
 use Rattle.vbm_ports.specs.Crash.{Only}
 use Rattle.vbm_ports.specs.Stream.{IsProperPrefix}
 use Rattle.vbm_intent.specs.Log.{IsBadLog}
@@ -15,14 +15,18 @@ use Rattle.vbm_world.specs.World.{World, off}
 use Rattle.vbm_world.specs.Step.{step_of}
 use Rattle.vbm_lines.specs.Lines.{Words}
 use Rattle.vbm_world.specs.Texts.{IsNoCommand, id_text, line_of}
-use Rattle.vbm_world.specs.Loose.{all_settled, is_refused}
+use Rattle.vbm_world.specs.Loose.{Unsettled, all_settled, is_refused}
 use Rattle.vbm_registry.specs.declared.fault.BadStore.{BadStore}
 use Rattle.vbm_registry.specs.declared.fault.BadStore.TheVariants.{NoLibrary, BadLog, BadLibrary, MissingFile, BadImage, WrongType, WrongId, BrokenLink, SameId}
 use Rattle.vbm_registry.specs.Stands.{Stands}
 use Rattle.vbm_engine.specs.declared.engine.Engine.{Engine}
-use Rattle.vbm_engine.specs.Serves.{serves, StandsLoosely}
+use Rattle.vbm_engine.specs.Serves.{serves, IsReady, StandsLoosely}
 use Rattle.vbm_engine.specs.Steps.{IsInStep}
-use Rattle.vbm_engine.specs.Opens.{AreRedone, StandsAlike, SyncsFirst, IsMade, IsThere}
+use Rattle.vbm_engine.specs.Opens.{AreRedone, StandsAlike, SyncsFirst, IsMade, IsThere, IsMaking}
+use Rattle.vbm_top.specs.declared.status.Status.{Status}
+use Rattle.vbm_top.specs.declared.status.Status.TheVariants.{Done, Refused, DiskFault, OutputFault, NoMemory, StoreRefused}
+use Rattle.vbm_top.specs.Streams.{Stream, Works, Fails}
+use Rattle.vbm_top.specs.Peek.{Peeked, peeked, answer_of}
 
 -- ---- words
 
@@ -69,40 +73,45 @@ store_line bad = store_text bad ++ codes "\n"
 abbrev pub there_line : List ℕ
 there_line = codes "store 0 LibraryThere\n"
 
--- the status of an answer: 1 is a refusal
-abbrev pub status_of : Answer → ℕ
-status_of answer = if is_refused answer then 1 else 0
+-- the status of an answer
+abbrev pub status_of : Answer → Status
+status_of answer = if is_refused answer then Refused else Done
 
 -- a proper prefix of the line was written
 abbrev pub BreaksOff : List ℕ → List ℕ → List ℕ → Type 0
 BreaksOff line was now = (front : List ℕ) × IsProperPrefix front line × (now ≡ was ++ front)
 
+-- nothing was written
+abbrev pub IsSilent : Stream → Type 0
+IsSilent sink = Works sink (sink.now.bytes ≡ sink.was.bytes)
+
 -- The line was written whole, with its status; or the sink failed, with a proper prefix of it.
-abbrev pub Writes : Type 0 → List ℕ → ℕ → ℕ → List ℕ → List ℕ → Type 0
-Writes told line wanted status was now =
-    ((status ≡ wanted) × (told → now ≡ was ++ line)) ⊎ ((status ≡ 5) × (told → BreaksOff line was now))
+abbrev pub WritesLine : Stream → List ℕ → Status → Status → Type 0
+WritesLine sink line wanted status =
+    ((status ≡ wanted) × Works sink (sink.now.bytes ≡ sink.was.bytes ++ line))
+    ⊎ ((status ≡ OutputFault) × Fails sink (BreaksOff line sink.was.bytes sink.now.bytes))
+
+-- The line was written with its status, unless the sink failed; or it was lost, since there was no memory.
+abbrev pub Says : Stream → List ℕ → Status → Status → Type 0
+Says sink line wanted status = WritesLine sink line wanted status ⊎ ((status ≡ NoMemory) × IsSilent sink)
 
 -- ---- how a run ends. What was written is told by some sinks only, and what the files hold by some disks.
 
 -- nothing was written, since the disk failed or there was no memory
-abbrev pub SaysNothing : Type 0 → ℕ → List ℕ → List ℕ → Type 0
-SaysNothing told status was now = ((status ≡ 3) ⊎ (status ≡ 6)) × (told → now ≡ was)
-
--- The line was written with its status, unless the sink failed or there was no memory.
-abbrev pub Says : Type 0 → List ℕ → ℕ → ℕ → List ℕ → List ℕ → Type 0
-Says told line wanted status was now = Writes told line wanted status was now ⊎ ((status ≡ 6) × (told → now ≡ was))
+abbrev pub SaysNothing : Stream → Status → Type 0
+SaysNothing sink status = ((status ≡ DiskFault) ⊎ (status ≡ NoMemory)) × IsSilent sink
 
 -- `peek` with this answer
-abbrev pub PeekEnds : Type 0 → Answer → ℕ → List ℕ → List ℕ → Type 0
-PeekEnds told answer status was now = Writes told (line_of answer) (status_of answer) status was now ⊎ SaysNothing told status was now
+abbrev pub PeekEnds : Answer → Stream → Status → Type 0
+PeekEnds answer sink status = WritesLine sink (line_of answer) (status_of answer) status ⊎ SaysNothing sink status
 
 -- `init` with this seed
-pub data InitEnds (tells told : Type 0) (seed : List ℕ) (old new : DiskState) (status : ℕ) (was now : List ℕ) : Type 0 where
-  made : (tells → IsMade seed old.files new) → Writes told (line_of (Id seed)) 0 status was now → InitEnds tells told seed old new status was now
-  there : (tells → IsThere old.files new.files) → Writes told there_line 7 status was now → InitEnds tells told seed old new status was now
-  refused : (bad : BadStore) → (tells → (bad ≡ BadLog) × IsBadLog old.files × (new.files ≡ old.files)) → Writes told (store_line bad) 7 status was now
-      → InitEnds tells told seed old new status was now
-  silent : SaysNothing told status was now → InitEnds tells told seed old new status was now
+pub data InitEnds (tells : Type 0) (seed : List ℕ) (old new : DiskState) (sink : Stream) (status : Status) : Type 0 where
+  made : (tells → IsMade seed old.files new) → Says sink (line_of (Id seed)) Done status → InitEnds tells seed old new sink status
+  there : (tells → IsThere old.files new.files) → WritesLine sink there_line StoreRefused status → InitEnds tells seed old new sink status
+  refused : (tells → IsBadLog old.files × (new.files ≡ old.files)) → Says sink (store_line BadLog) StoreRefused status
+      → InitEnds tells seed old new sink status
+  silent : SaysNothing sink status → InitEnds tells seed old new sink status
 
 -- The store that the files stood for took the command with this answer, and the files stand for the world after it, off and settled.
 pub record IsAnswered (command : Command) (files : Files) (answer : Answer) (new : DiskState) : Type 0 where
@@ -121,24 +130,31 @@ pub record IsUnclosed (command : Command) (files : Files) (answer : Answer) (new
   pub is_answer : answer ≡ (step_of world command number).0
   pub images : (image : Files) → new.may_leave image → StandsLoosely (off (step_of world command number).1) all_settled image
 
+-- There was no memory for the command: the files stand for the world that they stood for, and all is settled.
+pub record IsUndone (files : Files) (new : DiskState) : Type 0 where
+  pub world : World
+  pub stood : Stands files (Ok world)
+  pub stands : Stands new.files (Ok world)
+  pub settled : Only new.files new.may_leave
+
 -- a command of the machine, over files
-pub data CommandEnds (tells told : Type 0) (command : Command) (files : Files) (new : DiskState) (status : ℕ) (was now : List ℕ) : Type 0 where
+pub data CommandEnds (tells : Type 0) (command : Command) (files : Files) (new : DiskState) (sink : Stream) (status : Status) : Type 0 where
   -- the store is refused
   faulty : (bad : BadStore) → (tells → Stands files (Err bad) × AreRedone files new.files)
-      → Writes told (store_line bad) 7 status was now → CommandEnds tells told command files new status was now
+      → Says sink (store_line bad) StoreRefused status → CommandEnds tells command files new sink status
   -- the command is answered
   answered : (answer : Answer) → (tells → IsAnswered command files answer new)
-      → Writes told (line_of answer) (status_of answer) status was now → CommandEnds tells told command files new status was now
-  -- the disk failed when the store was closed, after the answer was written, whole or in part, or was lost for want of memory
-  unclosed : (answer : Answer) → (tells → IsUnclosed command files answer new) → status ≡ 3
-      → (told → (now ≡ was ++ line_of answer) ⊎ BreaksOff (line_of answer) was now) → CommandEnds tells told command files new status was now
-  -- there was no memory, before the command was done, for the line of a refused store, or for an answer
-  unanswered : status ≡ 6 → (told → now ≡ was)
-      → (tells → StandsAlike files new.files ⊎ ((bad : BadStore) × Stands files (Err bad) × AreRedone files new.files)
-      ⊎ ((answer : Answer) × IsAnswered command files answer new))
-      → CommandEnds tells told command files new status was now
+      → Says sink (line_of answer) (status_of answer) status → CommandEnds tells command files new sink status
+  -- the same, but that the disk failed when the store was closed
+  unclosed : (answer : Answer) (wanted : Status) → (tells → IsUnclosed command files answer new)
+      → Says sink (line_of answer) (status_of answer) wanted → status ≡ DiskFault → CommandEnds tells command files new sink status
+  -- there was no memory for the command
+  undone : (tells → IsUndone files new) → IsSilent sink → status ≡ NoMemory → CommandEnds tells command files new sink status
+  -- there was no memory in the opening
+  unopened : (tells → StandsAlike files new.files × AreRedone files new.files) → IsSilent sink → status ≡ NoMemory
+      → CommandEnds tells command files new sink status
   -- the disk failed before an answer
-  broken : status ≡ 3 → (told → now ≡ was) → CommandEnds tells told command files new status was now
+  broken : IsSilent sink → status ≡ DiskFault → CommandEnds tells command files new sink status
 
 -- the files stood for a world that has P
 abbrev pub Stood : Files → (World → Type 0) → Type 0
@@ -153,8 +169,31 @@ abbrev pub IsInRun : Command → DiskState → Files → Type 0
 IsInRun command old image = old.may_leave image ⊎ IsOfCommand command old.files image
 
 -- From its first sync on each image has P; or the disk failed or there was no memory before that, and the disk was only read.
-abbrev pub SyncsOrFails : Type 0 → DiskState → DiskState → ℕ → (Files → Type 0) → Type 0
-SyncsOrFails tells old new status P = SyncsFirst old new P ⊎ (((status ≡ 3) ⊎ (status ≡ 6)) × OnlyReads tells old new)
+abbrev pub SyncsOrFails : Type 0 → DiskState → DiskState → Status → (Files → Type 0) → Type 0
+SyncsOrFails tells old new status P =
+    SyncsFirst old new P ⊎ (((status ≡ DiskFault) ⊎ (status ≡ NoMemory)) × OnlyReads tells old new)
+
+-- ---- a run
+
+-- A run of `peek`: it reads alone, and answers what the file holds.
+pub record RunsPeek (tells : Type 0) (name : List ℕ) (lba : ℕ) (old new : DiskState) (sink : Stream) (status : Status) : Type 0 where
+  pub found : Peeked
+  pub is : tells → found ≡ peeked (old.files name ∷ []) lba
+  pub ends : PeekEnds (answer_of found) sink status
+  pub reads : OnlyReads tells old new
+
+-- A run of `init`: a crash leaves the files redone or the new store, and until the first sync also what it could have left before.
+pub record RunsInit (tells : Type 0) (seed : List ℕ) (old new : DiskState) (sink : Stream) (status : Status) : Type 0 where
+  pub ends : InitEnds tells seed old new sink status
+  pub any_moment : tells → Passes old new (λ image. old.may_leave image ⊎ IsMaking seed old.files image)
+  pub synced : tells → SyncsOrFails tells old new status (IsMaking seed old.files)
+
+-- A run of a command of the machine: a crash leaves the world before or after the command, and until the first sync also what it
+-- could have left before.
+pub record RunsCommand (tells : Type 0) (command : Command) (old new : DiskState) (sink : Stream) (status : Status) : Type 0 where
+  pub ends : CommandEnds tells command old.files new sink status
+  pub any_moment : tells → Passes old new (IsInRun command old)
+  pub synced : tells → SyncsOrFails tells old new status (IsOfCommand command old.files)
 
 -- ---- closing
 
@@ -163,6 +202,13 @@ pub record IsClosed (e : Engine) (old new : DiskState) : Type 0 where
   pub stands : Stands new.files (Ok (off (serves e old.files)))
   pub settled : Only new.files new.may_leave
 
+-- what a crash leaves now is of the world that the engine served, off, but for unsettled sectors
+abbrev pub LeavesServed : Engine → DiskState → DiskState → Type 0
+LeavesServed e old new =
+    (u : Unsettled) → IsReady e old u → (image : Files) → new.may_leave image → StandsLoosely (off (serves e old.files)) u image
+
 -- The store was closed and the wanted status stays, or the disk failed.
-abbrev pub Closes : Type 0 → Engine → DiskState → DiskState → ℕ → ℕ → Type 0
-Closes tells e old new wanted status = ((status ≡ wanted) × (tells → IsClosed e old new)) ⊎ ((status ≡ 3) × Rose old.faults new.faults)
+abbrev pub Closes : Type 0 → Engine → DiskState → DiskState → Status → Status → Type 0
+Closes tells e old new wanted status =
+    ((status ≡ wanted) × (tells → IsClosed e old new) × IsCounted false old.faults new.faults)
+    ⊎ ((status ≡ DiskFault) × IsCounted true old.faults new.faults)

@@ -1,5 +1,5 @@
 -- One line of a run over an open store.
-use Rattle.std.specs.Prelude.{◌≡◌, ◌⊎◌, ℕ, List, [], ◌∷◌, ◌++◌, Option, Some, None, IsTrue}
+use Rattle.std.specs.Prelude.{◌≡◌, ◌⊎◌, ℕ, List, [], ◌∷◌, ◌++◌, Bool, true, false, Option, Some, None, IsTrue}
 use Rattle.vbm_ports.specs.Files.{Files}
 use Rattle.vbm_ports.specs.Disk.{DiskState}
 use Rattle.vbm_world.specs.declared.command.Command.{Command}
@@ -8,7 +8,7 @@ use Rattle.vbm_world.specs.World.{World, off}
 use Rattle.vbm_world.specs.Texts.{IsSpelled, line_of}
 use Rattle.vbm_lines.specs.Lines.{Line, is_skipped}
 use Rattle.vbm_world.specs.Loose.{Unsettled}
-use Rattle.vbm_world.specs.Runs.{IsCommandLine, IsBadLine, Does}
+use Rattle.vbm_world.specs.Runs.{IsCommandLine, IsBadLine, Untied, Does}
 use Rattle.vbm_lines.specs.Inputs.{AreRead, IsAllRead, IsCutOff, IsTooLong}
 use Rattle.vbm_lines.specs.Reader.{Reader, IsAt}
 use Rattle.vbm_engine.specs.declared.engine.Engine.{Engine}
@@ -20,7 +20,10 @@ use Rattle.vbm_top.specs.declared.serving.Request.{Request}
 use Rattle.vbm_top.specs.declared.serving.Request.TheVariants.{Skip, Bad, Do}
 use Rattle.vbm_top.specs.declared.serving.Turned.{Turned}
 use Rattle.vbm_top.specs.declared.serving.Turned.TheVariants.{Open, Broken}
-use Rattle.vbm_top.specs.Run.{status_of, Says}
+use Rattle.vbm_top.specs.declared.status.Status.{Status}
+use Rattle.vbm_top.specs.declared.status.Status.TheVariants.{Done, NoMemory}
+use Rattle.vbm_top.specs.Streams.{Stream}
+use Rattle.vbm_top.specs.Run.{status_of, IsSilent, Says}
 
 -- what a line asks for
 abbrev pub IsRequest : Line → Request → Type 0
@@ -39,14 +42,10 @@ abbrev pub IsSoundTurn : Turned → Type 0
 IsSoundTurn (Open next status) = IsSoundEngine next
 IsSoundTurn Broken = Unit {0}
 
-abbrev pub OnBroken : Turned → Type 0 → Type 0
-OnBroken (Open next status) P = Unit {0}
-OnBroken Broken P = P
-
--- the sink failed
-abbrev pub OnOutputFault : Turned → Type 0 → Type 0
-OnOutputFault (Open next status) P = status ≡ 5 → P
-OnOutputFault Broken P = Unit {0}
+-- the disk failed
+abbrev pub has_broken : Turned → Bool
+has_broken (Open next status) = false
+has_broken Broken = true
 
 -- ---- the lines that are read
 
@@ -63,43 +62,43 @@ Asks new input rest lines line (asked.Line request) = IsAt new input rest (lines
 Asks new input rest lines line asked.End = IsAllRead new.most input rest lines
 Asks new input rest lines line asked.Fault = IsCutOff new.most input rest lines
 Asks new input rest lines line asked.TooLong = IsTooLong new.most input rest lines
-Asks new input rest lines line asked.NoMemory = AreRead input rest lines
+Asks new input rest lines line asked.NoMemory = AreRead new.most input rest lines
 
 -- the source failed
-abbrev pub OnInputFault : Asked → Type 0 → Type 0
-OnInputFault (asked.Line request) P = Unit {0}
-OnInputFault asked.End P = Unit {0}
-OnInputFault asked.Fault P = P
-OnInputFault asked.TooLong P = Unit {0}
-OnInputFault asked.NoMemory P = Unit {0}
+abbrev pub asking_failed : Asked → Bool
+asking_failed (asked.Line request) = false
+asking_failed asked.End = false
+asking_failed asked.Fault = true
+asking_failed asked.TooLong = false
+asking_failed asked.NoMemory = false
 
 -- ---- a command
 
 -- The command was done and its line written with its status, unless the sink failed or there was no memory; or nothing was done
 -- for want of memory; or the disk failed.
-abbrev pub TurnsCommand : Type 0 → Type 0 → DiskState → DiskState → Engine → Command → Turned → List ℕ → List ℕ → Type 0
-TurnsCommand tells told old new e c (Open next status) was now =
-    ((answer : Answer) × Says told (line_of answer) (status_of answer) status was now × (tells → Advances old new e next c answer))
-    ⊎ ((status ≡ 6) × (told → now ≡ was) × (tells → Stays old new e next))
-TurnsCommand tells told old new e c Broken was now = told → now ≡ was
+abbrev pub TurnsCommand : Type 0 → DiskState → DiskState → Engine → Command → Turned → Stream → Type 0
+TurnsCommand tells old new e c (Open next status) sink =
+    ((answer : Answer) × Says sink (line_of answer) (status_of answer) status × (tells → Advances old new e next c answer))
+    ⊎ ((status ≡ NoMemory) × IsSilent sink × (tells → Stays old new e next))
+TurnsCommand tells old new e c Broken sink = IsSilent sink
 
 -- ---- a line
 
 -- the line of an answer was written with its status; a skipped line has none
-abbrev pub SaysAnswer : Type 0 → Option Answer → ℕ → List ℕ → List ℕ → Type 0
-SaysAnswer told None status was now = (status ≡ 0) × (told → now ≡ was)
-SaysAnswer told (Some answer) status was now = Says told (line_of answer) (status_of answer) status was now
+abbrev pub SaysAnswer : Stream → Option Answer → Status → Type 0
+SaysAnswer sink None status = (status ≡ Done) × IsSilent sink
+SaysAnswer sink (Some answer) status = Says sink (line_of answer) (status_of answer) status
 
 -- The engine `next` serves the world after the line, which has this answer.
 pub record IsPast (old new : DiskState) (e next : Engine) (line : Line) (answer : Option Answer) : Type 0 where
   pub does : (u : Unsettled) → IsReady e old u
-      → (left : Unsettled) × Does (serves e old.files) u line answer (serves next new.files) left × IsReady next new left
+      → (left : Unsettled) × Does Untied (serves e old.files) u line answer (serves next new.files) left × IsReady next new left
 
-abbrev pub TurnsLine : Type 0 → Type 0 → DiskState → DiskState → Engine → Line → Turned → List ℕ → List ℕ → Type 0
-TurnsLine tells told old new e line (Open next status) was now =
-    ((answer : Option Answer) × SaysAnswer told answer status was now × (tells → IsPast old new e next line answer))
-    ⊎ ((status ≡ 6) × (told → now ≡ was) × (tells → Stays old new e next))
-TurnsLine tells told old new e line Broken was now = (command : Command) × IsCommandLine line command × (told → now ≡ was)
+abbrev pub TurnsLine : Type 0 → DiskState → DiskState → Engine → Line → Turned → Stream → Type 0
+TurnsLine tells old new e line (Open next status) sink =
+    ((answer : Option Answer) × SaysAnswer sink answer status × (tells → IsPast old new e next line answer))
+    ⊎ ((status ≡ NoMemory) × IsSilent sink × (tells → Stays old new e next))
+TurnsLine tells old new e line Broken sink = (command : Command) × IsCommandLine line command × IsSilent sink
 
 -- an image at some moment of a line: of the world before it, or of its command's step
 abbrev pub IsAtLine : World → Line → Unsettled → Files → Type 0

@@ -1,7 +1,7 @@
 //! Commands of the machine.
 
-ghost use Rattle.std.specs.Prelude.{◌≡◌, ◌≢◌, ◌≤◌, Ok};
-ghost use Rattle.vbm_ports.specs.Counts.{Rose};
+ghost use Rattle.std.specs.Prelude.{◌≡◌, Ok};
+ghost use Rattle.vbm_ports.specs.Counts.{IsCounted};
 ghost use Rattle.vbm_ports.specs.Disk.{Passes};
 ghost use Rattle.vbm_ports.specs.Files.{Files};
 ghost use Rattle.vbm_world.specs.Loose.{Unsettled, all_settled};
@@ -9,11 +9,13 @@ ghost use Rattle.vbm_world.specs.Texts.{IsSpelled};
 ghost use Rattle.vbm_registry.specs.Stands.{Stands};
 ghost use Rattle.vbm_engine.specs.Serves.{serves, IsSoundEngine, IsReady};
 ghost use Rattle.vbm_engine.specs.Steps.{IsInStep};
+ghost use Rattle.vbm_top.specs.Statuses.{is_disk_fault};
+ghost use Rattle.vbm_top.specs.Streams.{stream};
 ghost use Rattle.vbm_top.specs.Run.{CommandEnds, IsInRun, IsOfCommand, SyncsOrFails};
 
 use crate::saying::write_store;
 use crate::serving::{Turned, answer_command, close_with};
-use crate::status::{DISK_FAULT, NO_MEMORY};
+use crate::status::Status;
 use std::alloc::Global;
 use vbm_engine::{Engine, Opened, open};
 use vbm_ports::{Disk, Sink};
@@ -26,22 +28,20 @@ fn serve<D: Disk, K: Sink>(
     disk: &mut D,
     sink: &mut K,
     command: &Command,
-) -> u8
+) -> Status
     requires sound { IsSoundEngine engine }
     requires spelled { IsSpelled command.now }
     requires ready { D.tells → (u : Unsettled) → IsReady engine (D.state disk.old) u }
     ensures ends { (files : Files) → (D.tells → Stands files (Ok (serves engine (D.state disk.old).files)))
-        → CommandEnds D.tells K.tells command.now files (D.state disk.new) result (K.written sink.old) (K.written sink.new) }
+        → CommandEnds D.tells command.now files (D.state disk.new)
+        (stream K.tells K.written K.faults sink.old sink.new) result }
     ensures any_moment { D.tells
         → Passes (D.state disk.old) (D.state disk.new) (IsInStep (serves engine (D.state disk.old).files) command.now all_settled) }
-    ensures faults { (D.state disk.old).faults ≤ (D.state disk.new).faults }
-    ensures disk_fault { result ≡ 3 → Rose (D.state disk.old).faults (D.state disk.new).faults }
-    ensures output_fault { result ≡ 5 → Rose (K.faults sink.old) (K.faults sink.new) }
-    ensures not_two { result ≢ 2 }
+    ensures faults { IsCounted (is_disk_fault result) (D.state disk.old).faults (D.state disk.new).faults }
 {
     match answer_command(alloc, engine, disk, sink, command) {
         Turned::Open(next, status) => close_with(next, disk, status),
-        Turned::Broken => DISK_FAULT,
+        Turned::Broken => Status::DiskFault,
     }
 }
 
@@ -51,22 +51,19 @@ pub(crate) fn do_command<D: Disk, K: Sink>(
     disk: &mut D,
     sink: &mut K,
     command: &Command,
-) -> u8
+) -> Status
     requires { IsSpelled command.now }
-    ensures ends { CommandEnds D.tells K.tells command.now (D.state disk.old).files (D.state disk.new) result
-        (K.written sink.old) (K.written sink.new) }
+    ensures ends { CommandEnds D.tells command.now (D.state disk.old).files (D.state disk.new)
+        (stream K.tells K.written K.faults sink.old sink.new) result }
     ensures any_moment { D.tells → Passes (D.state disk.old) (D.state disk.new) (IsInRun command.now (D.state disk.old)) }
     ensures synced { D.tells
         → SyncsOrFails D.tells (D.state disk.old) (D.state disk.new) result (IsOfCommand command.now (D.state disk.old).files) }
-    ensures faults { (D.state disk.old).faults ≤ (D.state disk.new).faults }
-    ensures disk_fault { result ≡ 3 → Rose (D.state disk.old).faults (D.state disk.new).faults }
-    ensures output_fault { result ≡ 5 → Rose (K.faults sink.old) (K.faults sink.new) }
-    ensures not_two { result ≢ 2 }
+    ensures faults { IsCounted (is_disk_fault result) (D.state disk.old).faults (D.state disk.new).faults }
 {
     match open(alloc, disk) {
         Opened::Open(engine) => serve(alloc, engine, disk, sink, command),
         Opened::Refused(bad) => write_store(alloc, sink, &bad),
-        Opened::Fault => DISK_FAULT,
-        Opened::NoMemory => NO_MEMORY,
+        Opened::Fault => Status::DiskFault,
+        Opened::NoMemory => Status::NoMemory,
     }
 }

@@ -1,14 +1,16 @@
 //! One sector of one image.
 
-ghost use Rattle.std.specs.Prelude.{◌≡◌, ◌≢◌, ◌≤◌, ◌∷◌, [], ℕ, List, length, map, Some, Ok, IsTrue, All};
-ghost use Rattle.vbm_ports.specs.Counts.{Rose};
+ghost use Rattle.std.specs.Prelude.{◌≡◌, ◌∷◌, [], ℕ, false, List, length, map, Some, Ok, IsTrue, All};
+ghost use Rattle.vbm_ports.specs.Counts.{IsCounted};
 ghost use Rattle.vbm_ports.specs.Disk.{OnlyReads};
 ghost use Rattle.vbm_ports.specs.Names.{is_medium_name};
-ghost use Rattle.vbm_top.specs.Peek.{peeked, Tells, Peeked, answer_of};
+ghost use Rattle.vbm_top.specs.Peek.{peeked, Tells, Peeked, peek_failed, answer_of};
+ghost use Rattle.vbm_top.specs.Statuses.{is_disk_fault};
+ghost use Rattle.vbm_top.specs.Streams.{stream};
 ghost use Rattle.vbm_top.specs.Run.{PeekEnds};
 
 use crate::saying::write_answer;
-use crate::status::{DISK_FAULT, NO_MEMORY};
+use crate::status::Status;
 use std::alloc::Global;
 use vbm_header::{SECTOR_LEN, SECTORS_OF_BLOCK};
 use vbm_ports::{Bytes, Disk, Names, Sink};
@@ -33,7 +35,7 @@ pub fn peek<D: Disk>(alloc: Global, disk: &mut D, files: &Names, lba: u64) -> Pe
     requires one { length files.now ≡ 1 }
     requires names { All (λ name. IsTrue (is_medium_name name)) files.now }
     ensures exact { D.tells → Tells result (peeked (map (D.state disk.old).files files.now) lba) }
-    ensures cause { result ≡ PeekResult.Failed → Rose (D.state disk.old).faults (D.state disk.new).faults }
+    ensures faults { IsCounted (peek_failed result) (D.state disk.old).faults (D.state disk.new).faults }
     ensures reads { OnlyReads D.tells (D.state disk.old) (D.state disk.new) }
 {
     peek_file(alloc, disk, files.get(0).bytes(), lba)
@@ -43,7 +45,7 @@ pub fn peek<D: Disk>(alloc: Global, disk: &mut D, files: &Names, lba: u64) -> Pe
 pub(crate) fn peek_file<D: Disk>(alloc: Global, disk: &mut D, name: &[u8], lba: u64) -> PeekResult
     requires { IsTrue (is_medium_name name.now) }
     ensures exact { D.tells → Tells result (peeked ((D.state disk.old).files name.now ∷ []) lba) }
-    ensures cause { result ≡ PeekResult.Failed → Rose (D.state disk.old).faults (D.state disk.new).faults }
+    ensures faults { IsCounted (peek_failed result) (D.state disk.old).faults (D.state disk.new).faults }
     ensures reads { OnlyReads D.tells (D.state disk.old) (D.state disk.new) }
 {
     match disk.length(name) {
@@ -59,7 +61,7 @@ fn peek_present<D: Disk>(alloc: Global, disk: &mut D, name: &[u8], len: u64, lba
     requires told { D.tells → (f : List ℕ) → (D.state disk.old).files name.now ≡ Some f → length f ≡ len }
     ensures exact { D.tells → (f : List ℕ) → (D.state disk.old).files name.now ≡ Some f
         → Tells result (peeked (Some f ∷ []) lba) }
-    ensures cause { result ≡ PeekResult.Failed → Rose (D.state disk.old).faults (D.state disk.new).faults }
+    ensures faults { IsCounted (peek_failed result) (D.state disk.old).faults (D.state disk.new).faults }
     ensures reads { OnlyReads D.tells (D.state disk.old) (D.state disk.new) }
 {
     let (header, word) = match read_image(alloc, disk, name, len, lba / SECTORS_OF_BLOCK) {
@@ -81,30 +83,27 @@ fn peek_present<D: Disk>(alloc: Global, disk: &mut D, name: &[u8], len: u64, lba
 }
 
 /// Writes the bytes of a sector.
-fn write_sector<K: Sink>(alloc: Global, sink: &mut K, sector: &[u8]) -> u8
-    ensures ends { PeekEnds K.tells (answer_of (Ok sector.now)) result (K.written sink.old) (K.written sink.new) }
-    ensures output { result ≡ 5 → Rose (K.faults sink.old) (K.faults sink.new) }
-    ensures others { (result ≢ 2) × (result ≢ 3) }
+fn write_sector<K: Sink>(alloc: Global, sink: &mut K, sector: &[u8]) -> Status
+    ensures ends { PeekEnds (answer_of (Ok sector.now)) (stream K.tells K.written K.faults sink.old sink.new) result }
+    ensures not_disk { is_disk_fault result ≡ false }
 {
     match Bytes::from_slice(alloc, sector) {
         Ok(bytes) => write_answer(alloc, sink, &Answer::Sectors(bytes)),
-        Err(_) => NO_MEMORY,
+        Err(_) => Status::NoMemory,
     }
 }
 
 /// Writes what `peek` answers.
-fn write_found<K: Sink>(alloc: Global, sink: &mut K, found: &PeekResult) -> u8
+fn write_found<K: Sink>(alloc: Global, sink: &mut K, found: &PeekResult) -> Status
     ensures ends { (asked : Peeked) → Tells found.now asked
-        → PeekEnds K.tells (answer_of asked) result (K.written sink.old) (K.written sink.new) }
-    ensures disk { result ≡ 3 → found.now ≡ PeekResult.Failed }
-    ensures output { result ≡ 5 → Rose (K.faults sink.old) (K.faults sink.new) }
-    ensures not_two { result ≢ 2 }
+        → PeekEnds (answer_of asked) (stream K.tells K.written K.faults sink.old sink.new) result }
+    ensures disk { is_disk_fault result ≡ peek_failed found.now }
 {
     match found {
         PeekResult::Sector(sector) => write_sector(alloc, sink, sector),
         PeekResult::Refused(refusal) => write_answer(alloc, sink, &Answer::Refused(*refusal)),
-        PeekResult::Failed => DISK_FAULT,
-        PeekResult::NoMemory => NO_MEMORY,
+        PeekResult::Failed => Status::DiskFault,
+        PeekResult::NoMemory => Status::NoMemory,
     }
 }
 
@@ -115,14 +114,12 @@ pub(crate) fn do_peek<D: Disk, K: Sink>(
     sink: &mut K,
     name: &[u8],
     lba: u64,
-) -> u8
+) -> Status
     requires { IsTrue (is_medium_name name.now) }
     ensures ends { (found : Peeked) × (D.tells → found ≡ peeked ((D.state disk.old).files name.now ∷ []) lba)
-        × PeekEnds K.tells (answer_of found) result (K.written sink.old) (K.written sink.new) }
+        × PeekEnds (answer_of found) (stream K.tells K.written K.faults sink.old sink.new) result }
     ensures reads { OnlyReads D.tells (D.state disk.old) (D.state disk.new) }
-    ensures disk_fault { result ≡ 3 → Rose (D.state disk.old).faults (D.state disk.new).faults }
-    ensures output_fault { result ≡ 5 → Rose (K.faults sink.old) (K.faults sink.new) }
-    ensures not_two { result ≢ 2 }
+    ensures faults { IsCounted (is_disk_fault result) (D.state disk.old).faults (D.state disk.new).faults }
 {
     let found = peek_file(alloc, disk, name, lba);
     write_found(alloc, sink, &found)

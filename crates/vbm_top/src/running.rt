@@ -1,20 +1,19 @@
 //! The top call.
 
-ghost use Rattle.std.specs.Prelude.{◌≡◌, ◌<◌, ◌≤◌, ◌^◌, ◌↔◌, ◌⊎◌, ◌∷◌, [], ℕ, List};
-ghost use Rattle.vbm_ports.specs.Counts.{Rose};
-ghost use Rattle.vbm_ports.specs.Disk.{Passes, OnlyReads};
+ghost use Rattle.std.specs.Prelude.{◌≡◌, ◌≢◌, ◌<◌, ◌≤◌, ◌^◌, ◌↔◌, ℕ, List};
+ghost use Rattle.vbm_ports.specs.Counts.{Rose, IsCounted};
 ghost use Rattle.vbm_world.specs.Texts.{IsCommand};
 ghost use Rattle.vbm_world.specs.declared.command.Command.{Command};
-ghost use Rattle.vbm_engine.specs.Opens.{IsMaking};
-ghost use Rattle.vbm_top.specs.Peek.{Peeked, peeked, answer_of};
-ghost use Rattle.vbm_top.specs.Run.{IsPeek, IsInit, IsScript, IsNoForm, PeekEnds, InitEnds, CommandEnds, IsInRun, IsOfCommand, SyncsOrFails};
+ghost use Rattle.vbm_top.specs.Statuses.{code_of, status_in, is_disk_fault, AreCounted};
+ghost use Rattle.vbm_top.specs.Streams.{stream, streams};
+ghost use Rattle.vbm_top.specs.Run.{IsPeek, IsInit, IsScript, IsNoForm, RunsPeek, RunsInit, RunsCommand};
 ghost use Rattle.vbm_top.specs.Script.{RunsScript};
 
 use crate::commanding::do_command;
 use crate::making::do_init;
 use crate::peeking::do_peek;
 use crate::scripting::do_script;
-use crate::status::{NO_FORM, NO_MEMORY};
+use crate::status::Status;
 use crate::words::{init_words, is_script, peek_words};
 use std::alloc::Global;
 use uuid::Uuid;
@@ -34,47 +33,72 @@ pub fn run<D: Disk, S: Source, K: Sink>(
     sink: &mut K,
 ) -> u8
     requires { most < 2 ^ 63 }
+    // The result is the number of a status.
+    ensures code { result ≡ code_of (status_in result) }
+
     // Status 2 comes exactly where the words are no command, and then nothing is written or read.
     ensures words { (result ≡ 2) ↔ IsNoForm words.now }
     ensures untouched { result ≡ 2 → (disk.new ≡ disk.old) × (sink.new ≡ sink.old) }
 
     // `peek` reads alone, and writes what the files hold.
-    ensures peek { (name : List ℕ) (lba : ℕ) → IsPeek words.now name lba → (found : Peeked) ×
-        (D.tells → found ≡ peeked ((D.state disk.old).files name ∷ []) lba)
-        × PeekEnds K.tells (answer_of found) result (K.written sink.old) (K.written sink.new) }
-    ensures peek_reads { (name : List ℕ) (lba : ℕ) → IsPeek words.now name lba
-        → OnlyReads D.tells (D.state disk.old) (D.state disk.new) }
+    ensures peek { (name : List ℕ) (lba : ℕ) → IsPeek words.now name lba
+        → RunsPeek D.tells name lba (D.state disk.old) (D.state disk.new) (stream K.tells K.written K.faults sink.old sink.new) (status_in result) }
 
-    // `init` makes a library, and a crash leaves the files as they were, redone, or the new library; until the first sync, also what
-    // it could have left at the call.
+    // `init` makes a library.
     ensures init { (seed : List ℕ) → IsInit words.now fresh seed
-        → InitEnds D.tells K.tells seed (D.state disk.old) (D.state disk.new) result (K.written sink.old) (K.written sink.new) }
-    ensures init_any_moment { D.tells → (seed : List ℕ) → IsInit words.now fresh seed → Passes (D.state disk.old) (D.state disk.new)
-        (λ image. (D.state disk.old).may_leave image ⊎ IsMaking seed (D.state disk.old).files image) }
-    ensures init_synced { D.tells → (seed : List ℕ) → IsInit words.now fresh seed
-        → SyncsOrFails D.tells (D.state disk.old) (D.state disk.new) result (IsMaking seed (D.state disk.old).files) }
+        → RunsInit D.tells seed (D.state disk.old) (D.state disk.new) (stream K.tells K.written K.faults sink.old sink.new) (status_in result) }
 
-    // A command of the machine is a step of the world that the files stand for, and a crash leaves the one before or the one after;
-    // until the first sync, also what it could have left at the call.
+    // A command of the machine is a step of the world that the files stand for.
     ensures command { (c : Command) → IsCommand words.now c
-        → CommandEnds D.tells K.tells c (D.state disk.old).files (D.state disk.new) result (K.written sink.old) (K.written sink.new) }
-    ensures any_moment { D.tells → (c : Command) → IsCommand words.now c
-        → Passes (D.state disk.old) (D.state disk.new) (IsInRun c (D.state disk.old)) }
-    ensures synced { D.tells → (c : Command) → IsCommand words.now c
-        → SyncsOrFails D.tells (D.state disk.old) (D.state disk.new) result (IsOfCommand c (D.state disk.old).files) }
+        → RunsCommand D.tells c (D.state disk.old) (D.state disk.new) (stream K.tells K.written K.faults sink.old sink.new) (status_in result) }
 
     // A script's lines are answered in their order, each before the next is read, and a crash leaves no world that is ahead of the
     // answers by more than the command that ran.
-    ensures script { IsScript words.now → RunsScript D.tells K.tells S.tells most (D.state disk.old) (D.state disk.new)
-        (S.rest source.old) (S.rest source.new) (K.written sink.old) (K.written sink.new) result }
+    ensures script { IsScript words.now → RunsScript D.tells most (D.state disk.old) (D.state disk.new)
+        (streams (stream S.tells S.rest S.faults source.old source.new)
+        (stream K.tells K.written K.faults sink.old sink.new)) (status_in result) }
 
     // Nothing but a script takes bytes from the source.
     ensures source { (IsScript words.now → ⊥) → source.new ≡ source.old }
 
-    ensures disk_fault { result ≡ 3 → Rose (D.state disk.old).faults (D.state disk.new).faults }
-    ensures input_fault { result ≡ 4 → Rose (S.faults source.old) (S.faults source.new) }
-    ensures output_fault { result ≡ 5 → Rose (K.faults sink.old) (K.faults sink.new) }
+    // The status tells which device failed. Behind a fault of the disk nothing is known of the others.
     ensures faults { (D.state disk.old).faults ≤ (D.state disk.new).faults }
+    ensures disk_fault { result ≡ 3 → Rose (D.state disk.old).faults (D.state disk.new).faults }
+    ensures no_disk_fault { result ≢ 3 → (D.state disk.new).faults ≡ (D.state disk.old).faults }
+    ensures input_fault { result ≡ 4 → Rose (S.faults source.old) (S.faults source.new) }
+    ensures no_input_fault { result ≢ 3 → result ≢ 4 → S.faults source.new ≡ S.faults source.old }
+    ensures output_fault { result ≡ 5 → Rose (K.faults sink.old) (K.faults sink.new) }
+    ensures no_output_fault { result ≢ 3 → result ≢ 5 → K.faults sink.new ≡ K.faults sink.old }
+{
+    run_words(alloc, words, fresh, most, disk, source, sink).code()
+}
+
+/// Does the command of the words, and gives the status itself.
+fn run_words<D: Disk, S: Source, K: Sink>(
+    alloc: Global,
+    words: &[Text],
+    fresh: Uuid,
+    most: u64,
+    disk: &mut D,
+    source: &mut S,
+    sink: &mut K,
+) -> Status
+    requires { most < 2 ^ 63 }
+    ensures words { (result ≡ Status.NoForm) ↔ IsNoForm words.now }
+    ensures untouched { result ≡ Status.NoForm → (disk.new ≡ disk.old) × (sink.new ≡ sink.old) }
+    ensures peek { (name : List ℕ) (lba : ℕ) → IsPeek words.now name lba
+        → RunsPeek D.tells name lba (D.state disk.old) (D.state disk.new) (stream K.tells K.written K.faults sink.old sink.new) result }
+    ensures init { (seed : List ℕ) → IsInit words.now fresh seed
+        → RunsInit D.tells seed (D.state disk.old) (D.state disk.new) (stream K.tells K.written K.faults sink.old sink.new) result }
+    ensures command { (c : Command) → IsCommand words.now c
+        → RunsCommand D.tells c (D.state disk.old) (D.state disk.new) (stream K.tells K.written K.faults sink.old sink.new) result }
+    ensures script { IsScript words.now → RunsScript D.tells most (D.state disk.old) (D.state disk.new)
+        (streams (stream S.tells S.rest S.faults source.old source.new)
+        (stream K.tells K.written K.faults sink.old sink.new)) result }
+    ensures source { (IsScript words.now → ⊥) → source.new ≡ source.old }
+    ensures faults { IsCounted (is_disk_fault result) (D.state disk.old).faults (D.state disk.new).faults }
+    ensures counted { AreCounted (streams (stream S.tells S.rest S.faults source.old source.new)
+        (stream K.tells K.written K.faults sink.old sink.new)) result }
 {
     if let Some((name, lba)) = peek_words(words) {
         return do_peek(alloc, disk, sink, name, lba);
@@ -87,7 +111,7 @@ pub fn run<D: Disk, S: Source, K: Sink>(
     }
     match parse_words(alloc, words) {
         Ok(command) => do_command(alloc, disk, sink, &command),
-        Err(ParseFault::BadLine) => NO_FORM,
-        Err(ParseFault::NoMemory) => NO_MEMORY,
+        Err(ParseFault::BadLine) => Status::NoForm,
+        Err(ParseFault::NoMemory) => Status::NoMemory,
     }
 }

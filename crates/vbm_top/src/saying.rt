@@ -1,11 +1,11 @@
 //! Lines that go out, and their statuses.
 
-ghost use Rattle.std.specs.Prelude.{◌≡◌, ◌≢◌, ◌⊎◌, ◌≤◌, ◌++◌, IfOk, codes, string_bytes};
-ghost use Rattle.vbm_ports.specs.Counts.{Rose};
+ghost use Rattle.std.specs.Prelude.{◌≡◌, ◌++◌, IfOk, codes, string_bytes};
 ghost use Rattle.vbm_world.specs.Texts.{line_of};
-ghost use Rattle.vbm_top.specs.Run.{store_text, store_line, status_of, Writes, Says};
+ghost use Rattle.vbm_top.specs.Streams.{stream};
+ghost use Rattle.vbm_top.specs.Run.{store_text, store_line, status_of, WritesLine, Says};
 
-use crate::status::{DONE, NO_MEMORY, OUTPUT_FAULT, REFUSED, STORE_REFUSED};
+use crate::status::Status;
 use std::alloc::{AllocError, Global};
 use vbm_engine::BadStore;
 use vbm_ports::{Sink, Text, put_all};
@@ -13,24 +13,22 @@ use vbm_script::answer_text;
 use vbm_world::Answer;
 
 /// Writes a line, and gives the status: this one, unless the sink failed.
-pub(crate) fn write_line<K: Sink>(sink: &mut K, line: &[u8], status: u8) -> u8
-    ensures writes { Writes K.tells line.now status result (K.written sink.old) (K.written sink.new) }
-    ensures either { (result ≡ status) ⊎ ((result ≡ 5) × Rose (K.faults sink.old) (K.faults sink.new)) }
-    ensures faults { K.faults sink.old ≤ K.faults sink.new }
+pub(crate) fn write_line<K: Sink>(sink: &mut K, line: &[u8], status: Status) -> Status
+    ensures { WritesLine (stream K.tells K.written K.faults sink.old sink.new) line.now status result }
 {
     match put_all(sink, line) {
         Ok(()) => status,
-        Err(_) => OUTPUT_FAULT,
+        Err(_) => Status::OutputFault,
     }
 }
 
 /// The status of an answer.
-fn status_of(answer: &Answer) -> u8
+fn status_of(answer: &Answer) -> Status
     ensures { result ≡ status_of answer.now }
 {
     match answer {
-        Answer::Refused(_) => REFUSED,
-        _ => DONE,
+        Answer::Refused(_) => Status::Refused,
+        _ => Status::Done,
     }
 }
 
@@ -44,27 +42,22 @@ fn line_of(alloc: Global, text: &[u8]) -> Result<Vec<u8>, AllocError>
 }
 
 /// Writes the line of a text with its status.
-fn write_text<K: Sink>(alloc: Global, sink: &mut K, text: &[u8], status: u8) -> u8
-    ensures says { Says K.tells (text.now ++ codes "\n") status result (K.written sink.old) (K.written sink.new) }
-    ensures either { (result ≡ status) ⊎ ((result ≡ 6) ⊎ ((result ≡ 5) × Rose (K.faults sink.old) (K.faults sink.new))) }
-    ensures faults { K.faults sink.old ≤ K.faults sink.new }
+fn write_text<K: Sink>(alloc: Global, sink: &mut K, text: &[u8], status: Status) -> Status
+    ensures { Says (stream K.tells K.written K.faults sink.old sink.new) (text.now ++ codes "\n") status result }
 {
     match line_of(alloc, text) {
         Ok(line) => write_line(sink, line.as_slice(), status),
-        Err(_) => NO_MEMORY,
+        Err(_) => Status::NoMemory,
     }
 }
 
 /// Writes the line of an answer, and gives its status.
-pub(crate) fn write_answer<K: Sink>(alloc: Global, sink: &mut K, answer: &Answer) -> u8
-    ensures says { Says K.tells (line_of answer.now) (status_of answer.now) result (K.written sink.old) (K.written sink.new) }
-    ensures output { result ≡ 5 → Rose (K.faults sink.old) (K.faults sink.new) }
-    ensures others { (result ≢ 2) × (result ≢ 3) }
-    ensures faults { K.faults sink.old ≤ K.faults sink.new }
+pub(crate) fn write_answer<K: Sink>(alloc: Global, sink: &mut K, answer: &Answer) -> Status
+    ensures { Says (stream K.tells K.written K.faults sink.old sink.new) (line_of answer.now) (status_of answer.now) result }
 {
     match answer_text(alloc, answer) {
         Ok(text) => write_text(alloc, sink, text.bytes(), status_of(answer)),
-        Err(_) => NO_MEMORY,
+        Err(_) => Status::NoMemory,
     }
 }
 
@@ -109,13 +102,11 @@ fn store_text(alloc: Global, bad: &BadStore) -> Result<Vec<u8>, AllocError>
 }
 
 /// Writes the line of a refused store, and gives its status.
-pub(crate) fn write_store<K: Sink>(alloc: Global, sink: &mut K, bad: &BadStore) -> u8
-    ensures says { Says K.tells (store_line bad.now) 7 result (K.written sink.old) (K.written sink.new) }
-    ensures output { result ≡ 5 → Rose (K.faults sink.old) (K.faults sink.new) }
-    ensures others { (result ≢ 2) × (result ≢ 3) }
+pub(crate) fn write_store<K: Sink>(alloc: Global, sink: &mut K, bad: &BadStore) -> Status
+    ensures { Says (stream K.tells K.written K.faults sink.old sink.new) (store_line bad.now) Status.StoreRefused result }
 {
     match store_text(alloc, bad) {
-        Ok(text) => write_text(alloc, sink, text.as_slice(), STORE_REFUSED),
-        Err(_) => NO_MEMORY,
+        Ok(text) => write_text(alloc, sink, text.as_slice(), Status::StoreRefused),
+        Err(_) => Status::NoMemory,
     }
 }

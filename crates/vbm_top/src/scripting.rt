@@ -1,19 +1,21 @@
 //! Scripts: the lines of a source, each answered before the next is read.
 
-ghost use Rattle.std.specs.Prelude.{◌≡◌, ◌≢◌, ◌≤◌, ◌<◌, ◌^◌, ℕ, List, Ok};
-ghost use Rattle.vbm_ports.specs.Counts.{Rose};
+ghost use Rattle.std.specs.Prelude.{◌≡◌, ◌<◌, ◌^◌, ℕ, List, Ok};
+ghost use Rattle.vbm_ports.specs.Counts.{IsCounted};
 ghost use Rattle.vbm_ports.specs.Files.{Files};
 ghost use Rattle.vbm_world.specs.Loose.{Unsettled};
 ghost use Rattle.vbm_lines.specs.Lines.{Line};
 ghost use Rattle.vbm_registry.specs.Stands.{Stands};
 ghost use Rattle.vbm_engine.specs.Serves.{serves, IsSoundEngine, IsReady};
 ghost use Rattle.vbm_lines.specs.Reader.{IsAt, left_over};
+ghost use Rattle.vbm_top.specs.Statuses.{is_disk_fault};
+ghost use Rattle.vbm_top.specs.Streams.{stream, streams};
 ghost use Rattle.vbm_top.specs.Script.{RunsLines, RunsScript};
-ghost use Rattle.vbm_top.specs.Turns.{IsRequest, IsSpelledRequest, Asks, OnInputFault, OnRequest};
+ghost use Rattle.vbm_top.specs.Turns.{IsRequest, IsSpelledRequest, Asks, asking_failed, OnRequest};
 
 use crate::saying::write_store;
 use crate::serving::{Request, Turned, answer_request, close_with, request_of};
-use crate::status::{DISK_FAULT, DONE, INPUT_FAULT, INPUT_TOO_LONG, NO_MEMORY, REFUSED};
+use crate::status::Status;
 use std::alloc::Global;
 use vbm_engine::{Engine, Opened, open};
 use vbm_lines::{Lines, Next};
@@ -41,8 +43,7 @@ fn next_request<S: Source>(alloc: Global, lines: &mut Lines, source: &mut S) -> 
     ensures spelled { OnRequest IsSpelledRequest result }
     ensures less { OnRequest (λ _. left_over lines.new < left_over lines.old) result }
     ensures most { lines.new.most ≡ lines.old.most }
-    ensures faults { S.faults source.old ≤ S.faults source.new }
-    ensures cause { OnInputFault result (Rose (S.faults source.old) (S.faults source.new)) }
+    ensures faults { IsCounted (asking_failed result) (S.faults source.old) (S.faults source.new) }
 {
     match lines.next_line(source) {
         Ok(Next::Line(line)) => match request_of(alloc, &line) {
@@ -65,38 +66,35 @@ fn run_lines<D: Disk, S: Source, K: Sink>(
     disk: &mut D,
     source: &mut S,
     sink: &mut K,
-) -> u8
+) -> Status
     requires most { most < 2 ^ 63 }
     requires sound { IsSoundEngine engine }
     requires ready { D.tells → (u : Unsettled) → IsReady engine (D.state disk.old) u }
     ensures runs { (files : Files) → (D.tells → Stands files (Ok (serves engine (D.state disk.old).files)))
-        → RunsLines D.tells K.tells S.tells most files (serves engine (D.state disk.old).files) (D.state disk.old) (D.state disk.new)
-        (S.rest source.old) (S.rest source.new) (K.written sink.old) (K.written sink.new) result }
-    ensures disk_faults { (D.state disk.old).faults ≤ (D.state disk.new).faults }
-    ensures disk_fault { result ≡ 3 → Rose (D.state disk.old).faults (D.state disk.new).faults }
-    ensures input_fault { result ≡ 4 → Rose (S.faults source.old) (S.faults source.new) }
-    ensures output_fault { result ≡ 5 → Rose (K.faults sink.old) (K.faults sink.new) }
-    ensures others { result ≢ 2 }
+        → RunsLines D.tells most files (serves engine (D.state disk.old).files) (D.state disk.old) (D.state disk.new)
+        (streams (stream S.tells S.rest S.faults source.old source.new)
+        (stream K.tells K.written K.faults sink.old sink.new)) result }
+    ensures faults { IsCounted (is_disk_fault result) (D.state disk.old).faults (D.state disk.new).faults }
 {
     let mut lines = Lines::new(alloc, most);
     let mut engine = engine;
-    let mut status = DONE;
+    let mut status = Status::Done;
     'answers: loop {
         let request = match next_request(alloc, &mut lines, source) {
             Asked::Line(request) => request,
             Asked::End => return close_with(engine, disk, status),
-            Asked::Fault => return close_with(engine, disk, INPUT_FAULT),
-            Asked::TooLong => return close_with(engine, disk, INPUT_TOO_LONG),
-            Asked::NoMemory => return close_with(engine, disk, NO_MEMORY),
+            Asked::Fault => return close_with(engine, disk, Status::InputFault),
+            Asked::TooLong => return close_with(engine, disk, Status::InputTooLong),
+            Asked::NoMemory => return close_with(engine, disk, Status::NoMemory),
         };
         match answer_request(alloc, engine, disk, sink, request) {
-            Turned::Broken => return DISK_FAULT,
+            Turned::Broken => return Status::DiskFault,
             Turned::Open(next, said) => {
-                if said > REFUSED {
+                if said.ends_run() {
                     return close_with(next, disk, said);
                 }
                 engine = next;
-                status = status.max(said);
+                status = status.worse(said);
             }
         }
     }
@@ -109,20 +107,17 @@ pub(crate) fn do_script<D: Disk, S: Source, K: Sink>(
     disk: &mut D,
     source: &mut S,
     sink: &mut K,
-) -> u8
+) -> Status
     requires { most < 2 ^ 63 }
-    ensures runs { RunsScript D.tells K.tells S.tells most (D.state disk.old) (D.state disk.new) (S.rest source.old) (S.rest source.new)
-        (K.written sink.old) (K.written sink.new) result }
-    ensures disk_faults { (D.state disk.old).faults ≤ (D.state disk.new).faults }
-    ensures disk_fault { result ≡ 3 → Rose (D.state disk.old).faults (D.state disk.new).faults }
-    ensures input_fault { result ≡ 4 → Rose (S.faults source.old) (S.faults source.new) }
-    ensures output_fault { result ≡ 5 → Rose (K.faults sink.old) (K.faults sink.new) }
-    ensures others { result ≢ 2 }
+    ensures runs { RunsScript D.tells most (D.state disk.old) (D.state disk.new)
+        (streams (stream S.tells S.rest S.faults source.old source.new)
+        (stream K.tells K.written K.faults sink.old sink.new)) result }
+    ensures faults { IsCounted (is_disk_fault result) (D.state disk.old).faults (D.state disk.new).faults }
 {
     match open(alloc, disk) {
         Opened::Open(engine) => run_lines(alloc, engine, most, disk, source, sink),
         Opened::Refused(bad) => write_store(alloc, sink, &bad),
-        Opened::Fault => DISK_FAULT,
-        Opened::NoMemory => NO_MEMORY,
+        Opened::Fault => Status::DiskFault,
+        Opened::NoMemory => Status::NoMemory,
     }
 }

@@ -1,19 +1,20 @@
 //! Commands over an open store, each with its answer's line.
 
-ghost use Rattle.std.specs.Prelude.{◌≡◌, ◌≤◌, IfOk};
-ghost use Rattle.vbm_ports.specs.Counts.{Rose};
-ghost use Rattle.vbm_ports.specs.Disk.{Passes, OnlyReads};
+ghost use Rattle.std.specs.Prelude.{◌≡◌, IfOk};
+ghost use Rattle.vbm_ports.specs.Counts.{IsCounted};
+ghost use Rattle.vbm_ports.specs.Disk.{Passes};
 ghost use Rattle.vbm_world.specs.World.{off};
 ghost use Rattle.vbm_world.specs.Loose.{Unsettled};
 ghost use Rattle.vbm_world.specs.Texts.{IsSpelled};
 ghost use Rattle.vbm_lines.specs.Lines.{Line, Short, says_nothing};
 ghost use Rattle.vbm_engine.specs.Serves.{serves, IsSoundEngine, FitsDisk, IsReady, StandsLoosely};
 ghost use Rattle.vbm_engine.specs.Steps.{IsInStep};
-ghost use Rattle.vbm_top.specs.Run.{Closes};
-ghost use Rattle.vbm_top.specs.Turns.{IsRequest, IsSpelledRequest, IsSoundTurn, OnBroken, OnOutputFault, TurnsCommand, TurnsLine, IsAtLine};
+ghost use Rattle.vbm_top.specs.Streams.{stream};
+ghost use Rattle.vbm_top.specs.Run.{Closes, LeavesServed};
+ghost use Rattle.vbm_top.specs.Turns.{IsRequest, IsSpelledRequest, IsSoundTurn, has_broken, TurnsCommand, TurnsLine, IsAtLine};
 
 use crate::saying::write_answer;
-use crate::status::{DISK_FAULT, DONE, NO_MEMORY};
+use crate::status::Status;
 use std::alloc::Global;
 use vbm_engine::{Engine, Stepped};
 use vbm_lines::{Words, words_of};
@@ -36,7 +37,7 @@ pub(crate) enum Request {
 #[derive(Drop)]
 pub(crate) enum Turned {
     /// The engine, and the status of the answer, or why it was not written.
-    Open(Engine, u8),
+    Open(Engine, Status),
     /// The disk failed.
     Broken,
 }
@@ -52,38 +53,35 @@ pub(crate) fn answer_command<D: Disk, K: Sink>(
     requires sound { IsSoundEngine engine }
     requires spelled { IsSpelled command.now }
     requires fits { D.tells → FitsDisk engine (D.state disk.old) }
-    ensures turns { TurnsCommand D.tells K.tells (D.state disk.old) (D.state disk.new) engine command.now result
-        (K.written sink.old) (K.written sink.new) }
+    ensures turns { TurnsCommand D.tells (D.state disk.old) (D.state disk.new) engine command.now result
+        (stream K.tells K.written K.faults sink.old sink.new) }
     ensures sound { IsSoundTurn result }
     ensures any_moment { D.tells → (u : Unsettled) → IsReady engine (D.state disk.old) u
         → Passes (D.state disk.old) (D.state disk.new) (IsInStep (serves engine (D.state disk.old).files) command.now u) }
-    ensures disk_faults { (D.state disk.old).faults ≤ (D.state disk.new).faults }
-    ensures disk_fault { OnBroken result (Rose (D.state disk.old).faults (D.state disk.new).faults) }
-    ensures output_faults { K.faults sink.old ≤ K.faults sink.new }
-    ensures output_fault { OnOutputFault result (Rose (K.faults sink.old) (K.faults sink.new)) }
+    ensures faults { IsCounted (has_broken result) (D.state disk.old).faults (D.state disk.new).faults }
 {
     match engine.step(alloc, disk, command) {
         Stepped::Next(next, answer) => {
             let status = write_answer(alloc, sink, &answer);
             Turned::Open(next, status)
         }
-        Stepped::NoMemory(same) => Turned::Open(same, NO_MEMORY),
+        Stepped::NoMemory(same) => Turned::Open(same, Status::NoMemory),
         Stepped::Broken => Turned::Broken,
     }
 }
 
 /// Closes a store, and gives this status, unless the disk fails.
-pub(crate) fn close_with<D: Disk>(engine: Engine, disk: &mut D, status: u8) -> u8
+pub(crate) fn close_with<D: Disk>(engine: Engine, disk: &mut D, status: Status) -> Status
     requires sound { IsSoundEngine engine }
     requires fits { D.tells → FitsDisk engine (D.state disk.old) }
     ensures closes { Closes D.tells engine (D.state disk.old) (D.state disk.new) status result }
     ensures any_moment { D.tells → (u : Unsettled) → IsReady engine (D.state disk.old) u
         → Passes (D.state disk.old) (D.state disk.new) (StandsLoosely (off (serves engine (D.state disk.old).files)) u) }
-    ensures reads { OnlyReads D.tells (D.state disk.old) (D.state disk.new) }
+    ensures images { D.tells → LeavesServed engine (D.state disk.old) (D.state disk.new) }
 {
     match engine.close(disk) {
         Ok(()) => status,
-        Err(Failed) => DISK_FAULT,
+        Err(Failed) => Status::DiskFault,
     }
 }
 
@@ -125,17 +123,14 @@ pub(crate) fn answer_request<D: Disk, K: Sink>(
     requires spelled { IsSpelledRequest request }
     requires fits { D.tells → FitsDisk engine (D.state disk.old) }
     ensures turns { (line : Line) → IsRequest line request
-        → TurnsLine D.tells K.tells (D.state disk.old) (D.state disk.new) engine line result (K.written sink.old) (K.written sink.new) }
+        → TurnsLine D.tells (D.state disk.old) (D.state disk.new) engine line result (stream K.tells K.written K.faults sink.old sink.new) }
     ensures sound { IsSoundTurn result }
     ensures any_moment { D.tells → (line : Line) → IsRequest line request → (u : Unsettled) → IsReady engine (D.state disk.old) u
         → Passes (D.state disk.old) (D.state disk.new) (IsAtLine (serves engine (D.state disk.old).files) line u) }
-    ensures disk_faults { (D.state disk.old).faults ≤ (D.state disk.new).faults }
-    ensures disk_fault { OnBroken result (Rose (D.state disk.old).faults (D.state disk.new).faults) }
-    ensures output_faults { K.faults sink.old ≤ K.faults sink.new }
-    ensures output_fault { OnOutputFault result (Rose (K.faults sink.old) (K.faults sink.new)) }
+    ensures faults { IsCounted (has_broken result) (D.state disk.old).faults (D.state disk.new).faults }
 {
     match request {
-        Request::Skip => Turned::Open(engine, DONE),
+        Request::Skip => Turned::Open(engine, Status::Done),
         Request::Bad => {
             let status = write_answer(alloc, sink, &Answer::Refused(Refusal::BadLine));
             Turned::Open(engine, status)

@@ -1,64 +1,90 @@
-use Rattle.std.proofs.Common.{[], ◌∷◌, refl, ap, sym, subst, ◌∙◌, ◌⊎◌, inr}
-use Rattle.vbm_ports.specs.Disk.{Passes}
-use Rattle.vbm_ports.proofs.States.{OnlyReads-refl}
-use Rattle.vbm_engine.specs.Opens.{IsMaking}
-use Rattle.vbm_top.specs.Peek.{peeked}
-use Rattle.vbm_top.specs.Run.{InitEnds, CommandEnds, IsInRun, IsOfCommand, SyncsOrFails}
-use Rattle.vbm_top.proofs.Forms.{one_peek, one_init, one_command}
+use Rattle.std.proofs.Common.{◌≡◌, ℕ, ap, sym, subst, ◌∙◌}
+use Rattle.vbm_top.specs.declared.status.Status.{Status}
+use Rattle.vbm_top.specs.declared.status.Status.TheVariants.{NoForm, DiskFault, InputFault, OutputFault}
+use Rattle.vbm_top.specs.Statuses.{code_of}
+use Rattle.vbm_top.specs.Streams.{stream, streams}
+use Rattle.vbm_top.specs.Run.{RunsPeek, RunsInit, RunsCommand}
+use Rattle.vbm_top.specs.Script.{RunsScript}
+use Rattle.vbm_top.proofs.Counted.{decoded, of_code, disk_grows, disk_rose, disk_same, input_rose, input_same, output_rose, output_same}
 use Rattle.vbm_top.proofs.running.run.Goals as goal
 
-pub returns-in-Some-clause-peek : goal.returns-in-Some-clause-peek
-returns-in-Some-clause-peek g c = λ name lba spelled.
-    let files = (g.D.Disk.state c.args.disk.now).files in
-    let same = one_peek c.args.words.now name c.in-Some.name.now lba c.in-Some.lba spelled c.in-Some.ensures in
-    let ends = c.do_peek.ensures.ends in (
-      ends.0,
-      λ tells. ends.1 tells ∙ ap (λ n. peeked (files n ∷ []) c.in-Some.lba) (sym same.0) ∙ ap (λ i. peeked (files name ∷ []) i) (sym same.1),
-      ends.2,
-    )
+-- another number is of another status
+other : (code : ℕ) (status named : Status) → code ≡ code_of status → (code ≡ code_of named → ⊥) → status ≡ named → ⊥
+other code status named is differs same = differs (is ∙ ap code_of same)
 
-pub returns-in-Some-init_words-clause-init : goal.returns-in-Some-init_words-clause-init
-returns-in-Some-init_words-clause-init g c = λ seed is.
-    let old = g.D.Disk.state c.args.disk.now in
-    let was = g.K.Sink.written c.args.sink.now in
-    subst (λ s. InitEnds g.D.Disk.tells g.K.Sink.tells s old (g.D.Disk.state c.do_init.new.disk) c.do_init.result was
-    (g.K.Sink.written c.do_init.new.sink))
-    (one_init c.args.words.now c.args.fresh c.in-Some-init_words.seed seed c.in-Some-init_words.ensures is) c.do_init.ensures.ends
+pub returns-clause-code : goal.returns-clause-code
+returns-clause-code g c = c.code.ensures ∙ ap code_of (sym (decoded c.code.result c.run_words.result c.code.ensures))
 
-pub returns-in-Some-init_words-clause-init_any_moment : goal.returns-in-Some-init_words-clause-init_any_moment
-returns-in-Some-init_words-clause-init_any_moment g c = λ told seed is.
-    let old = g.D.Disk.state c.args.disk.now in
-    subst (λ s. Passes old (g.D.Disk.state c.do_init.new.disk) (λ image. old.may_leave image ⊎ IsMaking s old.files image))
-    (one_init c.args.words.now c.args.fresh c.in-Some-init_words.seed seed c.in-Some-init_words.ensures is) (c.do_init.ensures.any_moment told)
+pub returns-clause-words : goal.returns-clause-words
+returns-clause-words g c = (
+  λ two. c.run_words.ensures.words.0 (of_code c.code.result c.run_words.result NoForm c.code.ensures two),
+  λ none. c.code.ensures ∙ ap code_of (c.run_words.ensures.words.1 none),
+)
 
-pub returns-in-Some-init_words-clause-init_synced : goal.returns-in-Some-init_words-clause-init_synced
-returns-in-Some-init_words-clause-init_synced g c = λ told seed is.
-    subst (λ s. SyncsOrFails g.D.Disk.tells (g.D.Disk.state c.args.disk.now) (g.D.Disk.state c.do_init.new.disk) c.do_init.result
-    (IsMaking s (g.D.Disk.state c.args.disk.now).files))
-    (one_init c.args.words.now c.args.fresh c.in-Some-init_words.seed seed c.in-Some-init_words.ensures is) (c.do_init.ensures.synced told)
+pub returns-clause-untouched : goal.returns-clause-untouched
+returns-clause-untouched g c two = c.run_words.ensures.untouched (of_code c.code.result c.run_words.result NoForm c.code.ensures two)
 
-pub returns-in-Ok-clause-command : goal.returns-in-Ok-clause-command
-returns-in-Ok-clause-command g c = λ command is.
-    let files = (g.D.Disk.state c.args.disk.now).files in
-    let was = g.K.Sink.written c.args.sink.now in
-    let now = g.K.Sink.written c.do_command.new.sink in
-    subst (λ d. CommandEnds g.D.Disk.tells g.K.Sink.tells d files (g.D.Disk.state c.do_command.new.disk) c.do_command.result was now)
-    (one_command c.args.words.now c.in-Ok.command command c.in-Ok.ensures is) c.do_command.ensures.ends
+pub returns-clause-peek : goal.returns-clause-peek
+returns-clause-peek g c name lba is =
+    subst (RunsPeek g.D.Disk.tells name lba (g.D.Disk.state c.args.disk.now) (g.D.Disk.state c.run_words.new.disk)
+    (stream g.K.Sink.tells g.K.Sink.written g.K.Sink.faults c.args.sink.now c.run_words.new.sink))
+    (sym (decoded c.code.result c.run_words.result c.code.ensures)) (c.run_words.ensures.peek name lba is)
 
-pub returns-in-Ok-clause-any_moment : goal.returns-in-Ok-clause-any_moment
-returns-in-Ok-clause-any_moment g c = λ told command is.
-    subst (λ d. Passes (g.D.Disk.state c.args.disk.now) (g.D.Disk.state c.do_command.new.disk) (IsInRun d (g.D.Disk.state c.args.disk.now)))
-    (one_command c.args.words.now c.in-Ok.command command c.in-Ok.ensures is) (c.do_command.ensures.any_moment told)
+pub returns-clause-init : goal.returns-clause-init
+returns-clause-init g c seed is =
+    subst (RunsInit g.D.Disk.tells seed (g.D.Disk.state c.args.disk.now) (g.D.Disk.state c.run_words.new.disk)
+    (stream g.K.Sink.tells g.K.Sink.written g.K.Sink.faults c.args.sink.now c.run_words.new.sink))
+    (sym (decoded c.code.result c.run_words.result c.code.ensures)) (c.run_words.ensures.init seed is)
 
-pub returns-in-Ok-clause-synced : goal.returns-in-Ok-clause-synced
-returns-in-Ok-clause-synced g c = λ told command is.
-    subst (λ d. SyncsOrFails g.D.Disk.tells (g.D.Disk.state c.args.disk.now) (g.D.Disk.state c.do_command.new.disk) c.do_command.result
-    (IsOfCommand d (g.D.Disk.state c.args.disk.now).files)) (one_command c.args.words.now c.in-Ok.command command c.in-Ok.ensures is)
-    (c.do_command.ensures.synced told)
+pub returns-clause-command : goal.returns-clause-command
+returns-clause-command g c command is =
+    subst (RunsCommand g.D.Disk.tells command (g.D.Disk.state c.args.disk.now) (g.D.Disk.state c.run_words.new.disk)
+    (stream g.K.Sink.tells g.K.Sink.written g.K.Sink.faults c.args.sink.now c.run_words.new.sink))
+    (sym (decoded c.code.result c.run_words.result c.code.ensures)) (c.run_words.ensures.command command is)
 
-pub returns-in-Err-NoMemory-clause-synced : goal.returns-in-Err-NoMemory-clause-synced
-returns-in-Err-NoMemory-clause-synced g c = λ told command is.
-    inr (inr refl, OnlyReads-refl g.D.Disk.tells (g.D.Disk.state c.args.disk.now))
+pub returns-clause-script : goal.returns-clause-script
+returns-clause-script g c is =
+    subst (RunsScript g.D.Disk.tells c.args.most (g.D.Disk.state c.args.disk.now) (g.D.Disk.state c.run_words.new.disk)
+    (streams (stream g.S.Source.tells g.S.Source.rest g.S.Source.faults c.args.source.now c.run_words.new.source)
+    (stream g.K.Sink.tells g.K.Sink.written g.K.Sink.faults c.args.sink.now c.run_words.new.sink)))
+    (sym (decoded c.code.result c.run_words.result c.code.ensures)) (c.run_words.ensures.script is)
 
-pub returns-in-Err-BadLine-clause-init_synced : goal.returns-in-Err-BadLine-clause-init_synced
-returns-in-Err-BadLine-clause-init_synced g c = λ told seed is. absurd (c.in_default-init_words.ensures c.args.fresh seed is)
+pub returns-clause-faults : goal.returns-clause-faults
+returns-clause-faults g c = disk_grows (g.D.Disk.state c.args.disk.now).faults (g.D.Disk.state c.run_words.new.disk).faults
+    c.run_words.result c.run_words.ensures.faults
+
+pub returns-clause-disk_fault : goal.returns-clause-disk_fault
+returns-clause-disk_fault g c three =
+    disk_rose (g.D.Disk.state c.args.disk.now).faults (g.D.Disk.state c.run_words.new.disk).faults
+    c.run_words.result c.run_words.ensures.faults (of_code c.code.result c.run_words.result DiskFault c.code.ensures three)
+
+pub returns-clause-no_disk_fault : goal.returns-clause-no_disk_fault
+returns-clause-no_disk_fault g c no_disk =
+    disk_same (g.D.Disk.state c.args.disk.now).faults (g.D.Disk.state c.run_words.new.disk).faults
+    c.run_words.result c.run_words.ensures.faults (other c.code.result c.run_words.result DiskFault c.code.ensures no_disk)
+
+pub returns-clause-input_fault : goal.returns-clause-input_fault
+returns-clause-input_fault g c four =
+    input_rose (streams (stream g.S.Source.tells g.S.Source.rest g.S.Source.faults c.args.source.now c.run_words.new.source)
+    (stream g.K.Sink.tells g.K.Sink.written g.K.Sink.faults c.args.sink.now c.run_words.new.sink))
+    c.run_words.result (of_code c.code.result c.run_words.result InputFault c.code.ensures four) c.run_words.ensures.counted
+
+pub returns-clause-no_input_fault : goal.returns-clause-no_input_fault
+returns-clause-no_input_fault g c no_disk no_input =
+    input_same (streams (stream g.S.Source.tells g.S.Source.rest g.S.Source.faults c.args.source.now c.run_words.new.source)
+    (stream g.K.Sink.tells g.K.Sink.written g.K.Sink.faults c.args.sink.now c.run_words.new.sink))
+    c.run_words.result (other c.code.result c.run_words.result DiskFault c.code.ensures no_disk)
+    (other c.code.result c.run_words.result InputFault c.code.ensures no_input) c.run_words.ensures.counted
+
+pub returns-clause-output_fault : goal.returns-clause-output_fault
+returns-clause-output_fault g c five =
+    output_rose (streams (stream g.S.Source.tells g.S.Source.rest g.S.Source.faults c.args.source.now c.run_words.new.source)
+    (stream g.K.Sink.tells g.K.Sink.written g.K.Sink.faults c.args.sink.now c.run_words.new.sink))
+    c.run_words.result (of_code c.code.result c.run_words.result OutputFault c.code.ensures five) c.run_words.ensures.counted
+
+pub returns-clause-no_output_fault : goal.returns-clause-no_output_fault
+returns-clause-no_output_fault g c no_disk no_output =
+    output_same (streams (stream g.S.Source.tells g.S.Source.rest g.S.Source.faults c.args.source.now c.run_words.new.source)
+    (stream g.K.Sink.tells g.K.Sink.written g.K.Sink.faults c.args.sink.now c.run_words.new.sink))
+    c.run_words.result (other c.code.result c.run_words.result DiskFault c.code.ensures no_disk)
+    (other c.code.result c.run_words.result OutputFault c.code.ensures no_output) c.run_words.ensures.counted

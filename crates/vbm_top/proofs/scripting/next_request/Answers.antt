@@ -21,7 +21,7 @@ returns-in-Ok-Line-clause-asks g c = (
   tt,
   λ told input before at.
       let rest = g.S.Source.rest c.next_line.new.source in
-      fewer_read input rest before (Short c.in-Ok-Line.line ∷ []) (are_read c.next_line.new.self input rest _
+      fewer_read c.next_line.new.self.most input rest before (Short c.in-Ok-Line.line ∷ []) (are_read c.next_line.new.self input rest _
       (gives_as c.in-Ok-Line.field-0 (Line c.in-Ok-Line.line) c.next_line.new.self input rest before c.in-Ok-Line.field-0-is
       (c.in-Ok-Line.ensures.lines told input before at))),
 )
