@@ -5,6 +5,7 @@ ghost use Rattle.vbm_ports.specs.Counts.{IsCounted};
 ghost use Rattle.vbm_ports.specs.Crash.{Only};
 ghost use Rattle.vbm_ports.specs.Disk.{Passes, OnlyReads};
 ghost use Rattle.vbm_intent.specs.Log.{IsLikeRedone};
+ghost use Rattle.vbm_ids.specs.Identifier.{IsSeed};
 ghost use Rattle.vbm_registry.specs.Library.{library_name};
 ghost use Rattle.vbm_engine.specs.Opens.{empty_library, Makes, SyncsFirst, RefusesBadLog, making_failed, StandsNew, IsMaking};
 ghost use Rattle.vbm_engine.specs.Recovers.{IsSettled};
@@ -36,11 +37,25 @@ fn empty_library(alloc: Global, seed: Uuid) -> Library
     }
 }
 
+// Sixteen bytes are a seed.
+fn are_seed(id: &[u8; 16])
+    ensures { IsSeed id.now }
+{
+    let _seed = Uuid::from_bytes(*id);
+}
+
+// An identifier can be a seed.
+fn check_seed(seed: Uuid)
+    ensures { IsSeed seed }
+{
+    are_seed(&seed.into_bytes());
+}
+
 // The writing of an empty library.
 fn new_plan(alloc: Global, seed: Uuid) -> Result<Plan, NoMemory>
     ensures { IfOk result (λ plan. IsNewPlan seed plan.changes) }
 {
-    let _bytes = seed.into_bytes();
+    check_seed(seed);
     let library = empty_library(alloc, seed);
     let mut plan = Plan::new(alloc);
     plan_library(alloc, &mut plan, &library)?;
