@@ -1,14 +1,15 @@
 -- Making a library.
-use Rattle.std.proofs.Common.{◌≡◌, ◌⊎◌, ℕ, List, [], Ok, refl, sym, ap, subst, ◌∙◌, inl, inr}
+use Rattle.std.proofs.Common.{◌≡◌, ◌⊎◌, ℕ, List, [], Ok, refl, sym, ap, subst, ◌∙◌, arith, inl, inr}
 use Rattle.std.proofs.lemmas.Bool.{false_from_ne_true}
 use Rattle.std.proofs.lemmas.Slice.Eq.{bytes_eq-Decides}
 use Rattle.vbm_ports.specs.Files.{Files}
 use Rattle.vbm_ports.specs.Disk.{DiskState, Passes, OnlyReads}
 use Rattle.vbm_ports.proofs.States.{Passes-trans, Passes-weaker}
+use Rattle.vbm_ids.specs.Identifier.{IsSeed}
 use Rattle.vbm_intent.specs.declared.change.Change.{Change}
 use Rattle.vbm_intent.specs.Changes.{log_name}
 use Rattle.vbm_intent.specs.Log.{closed, SameBesidesLog, RedoesTo, IsBeforeOrAfter, before as start, done, IsLikeRedone, redo_has_one_result}
-use Rattle.vbm_registry.specs.Library.{library_name, spelling}
+use Rattle.vbm_registry.specs.Library.{library_name, spelling, IsLibrary, IsQuiet}
 use Rattle.vbm_registry.specs.Reading.{library_in}
 use Rattle.vbm_registry.specs.Stands.{library_of, library_file, read_library, held_by, none_changed, Stands, redone}
 use Rattle.vbm_registry.proofs.Stores.{SameMedia, held_if_store, world_frame, medium_not_log, library_not_log, no_redo, not_open}
@@ -17,8 +18,24 @@ use Rattle.vbm_engine.specs.declared.engine.Made.TheVariants as made
 use Rattle.vbm_engine.specs.Opens.{empty_library, new_world, StandsNew, Makes}
 use Rattle.vbm_engine.specs.Recovers.{IsSettled}
 use Rattle.vbm_engine.specs.Inits.{IsNewPlan, with_library, MakesOver, IsOver, before, during}
-use Rattle.vbm_engine.proofs.Planned.{library_made, library_frame}
-use Rattle.vbm_engine.proofs.Decisions.{medium_not_library}
+use Rattle.vbm_store.proofs.Planned.{library_made, library_frame}
+use Rattle.vbm_store.proofs.Decisions.{medium_not_library}
+
+-- an empty library has the rules of one, and is quiet
+pub empty_rules : (seed : List ℕ) → IsSeed seed → IsLibrary (empty_library seed)
+empty_rules seed is = record {
+  seed = is;
+  next = omega arith;
+  inner = omega arith;
+  count = omega arith;
+  rises = tt;
+  media = tt;
+  inners = refl;
+  machines = refl;
+}
+
+pub empty_quiet : (seed : List ℕ) → IsQuiet (empty_library seed)
+empty_quiet seed = record { making = refl; merging = refl }
 
 -- ---- the commit
 

@@ -22,23 +22,25 @@ use Rattle.vbm_registry.specs.declared.media.Medium.{Medium}
 use Rattle.vbm_registry.specs.declared.library.Library.{Library}
 use Rattle.vbm_registry.specs.declared.fault.BadStore.{BadStore}
 use Rattle.vbm_registry.specs.declared.fault.BadStore.TheVariants.{SameId}
-use Rattle.vbm_registry.specs.Library.{library_name, head, IsLibrary}
+use Rattle.vbm_registry.specs.Library.{library_name, head, medium_entry_name, IsLibrary}
 use Rattle.vbm_registry.specs.Reading.{library_in}
 use Rattle.vbm_registry.specs.Stands.{library_file, library_of, read_library, header_in, header_fault, image_fault, file_fault, own_fault, id_in, first_fault, same_id_fault, media_fault, held_by, Stands, redone, bad_log}
-use Rattle.vbm_registry.proofs.Stores.{held_if_store, store_if_no_fault, library_is, library_not_log, stands_redone, stands_alike, stands_once, stands_shut}
+use Rattle.vbm_registry.proofs.Stores.{held_if_store, store_if_no_fault, library_is, quiet_is, library_not_log, stands_redone, stands_alike, stands_once, stands_shut}
 use Rattle.vbm_engine.specs.declared.engine.Engine.{Engine}
-use Rattle.vbm_engine.specs.declared.engine.Image.{Image}
+use Rattle.vbm_store.specs.declared.store.Image.{Image}
 use Rattle.vbm_engine.specs.declared.engine.Opened.{Opened}
 use Rattle.vbm_engine.specs.declared.engine.Opened.TheVariants as opened
-use Rattle.vbm_engine.specs.Serves.{serves, image_in, Holds, IsReady}
+use Rattle.vbm_store.specs.declared.store.Store.{Store}
+use Rattle.vbm_store.specs.Serves.{image_name, image_in, IsSoundStore, Holds}
+use Rattle.vbm_engine.specs.Serves.{serves, IsReady}
 use Rattle.vbm_engine.specs.Recovers.{IsSettled}
 use Rattle.vbm_engine.specs.Opens.{StandsAlike, AreKeptRedone, Opens, SyncsFirst, AreRedone}
-use Rattle.vbm_engine.specs.Images.{IsRead}
-use Rattle.vbm_engine.specs.declared.undone.Undone.{Undone}
-use Rattle.vbm_engine.specs.declared.undone.Undone.TheVariants.{Refused, Failed, NoMemory}
+use Rattle.vbm_store.specs.Images.{IsRead}
+use Rattle.vbm_store.specs.declared.undone.Undone.{Undone}
+use Rattle.vbm_store.specs.declared.undone.Undone.TheVariants.{Refused, Failed, NoMemory}
 use Rattle.vbm_engine.specs.Parts.{Finds, ids_of, fault_behind, OpensOf}
-use Rattle.vbm_engine.proofs.Keeping.{kept_itself, kept_besides}
-use Rattle.vbm_engine.proofs.Readiness.{holds_besides, settled_ready}
+use Rattle.vbm_store.proofs.Keeping.{kept_itself, kept_besides}
+use Rattle.vbm_store.proofs.Readiness.{holds_besides, unstaged_here, settled_ready}
 
 -- ---- the library's file
 
@@ -169,7 +171,7 @@ after_redo old new to shut held stands = stands_shut new held shut (stands_once 
 
 pub opens_since : (old mid new : DiskState) (r : Opened) → mid.files ≡ old.files → Opens mid new r → Opens old new r
 opens_since old mid new (opened.Open e) same opens =
-    subst (λ f. Stands f (Ok (serves e new.files)) × AreKeptRedone f e.library new.files × ((u : Unsettled) → IsReady e new u)) same opens
+    subst (λ f. Stands f (Ok (serves e new.files)) × AreKeptRedone f e.store.library new.files × ((u : Unsettled) → IsReady e new u)) same opens
 opens_since old mid new (opened.Refused bad) same opens = subst (λ f. Stands f (Err bad) × AreRedone f new.files) same opens
 opens_since old mid new opened.Fault same opens = tt
 opens_since old mid new opened.NoMemory same opens = subst (λ f. StandsAlike f new.files × AreRedone f new.files) same opens
@@ -186,14 +188,27 @@ kept_redone files now l to read =
       kept = kept_besides l l to.result to.result now lib (λ name other. sym (to.same name other)) (kept_itself l to.result lib);
     }
 
+image_names : (files : Files) (ms : List Medium) → map image_name (map (image_in files) ms) ≡ map medium_entry_name ms
+image_names files [] = refl
+image_names files (m ∷ ms) = ap (λ (names : List Name). m.name ∷ names) (image_names files ms)
+
+-- a store that holds files is sound
+sound_if_holds : (e : Store) (files : Files) → Holds e.library e.images files → IsSoundStore e
+sound_if_holds e files holds = record {
+  library = library_is files e.library holds.read;
+  quiet = quiet_is files e.library holds.read;
+  images = ap (λ (images : List Image). map image_name images) holds.headers ∙ image_names files e.library.media;
+}
+
 -- what a settled disk holds that old files are redone to
 opens_as : (old new : DiskState) (e : Engine) → RedoesTo new.files old.files → Only new.files new.may_leave → IsShutInAll new.may_leave
-    → new.may_leave new.files → Holds e.library e.images new.files → Opens old new (opened.Open e)
-opens_as old new e to only shut now holds = (
-  stands_redone new.files old.files _ to (held_if_store e.library new.files holds.read holds.store),
-  kept_redone old.files new.files e.library to holds.read,
-  (settled_ready e new holds only shut now).1,
-)
+    → new.may_leave new.files → Holds e.store.library e.store.images new.files → Opens old new (opened.Open e)
+opens_as old new e to only shut now holds =
+    let sound = sound_if_holds e.store new.files holds in (
+      stands_redone new.files old.files _ to (held_if_store e.store.library new.files holds.read holds.store),
+      kept_redone old.files new.files e.store.library to holds.read,
+      λ u. settled_ready e.store new u sound holds sound.quiet (unstaged_here e.store new.files u) only shut now,
+    )
 
 -- ---- a log that is not open
 
@@ -230,11 +245,11 @@ module _ (old new : DiskState) (shut : IsOpen (old.files log_name) → ⊥) wher
   pub started_passes : Passes old new (RedoesTo old.files) → Passes old new (StandsAlike old.files)
   started_passes time = Passes-weaker old new _ _ time (alike_closed old.files shut)
 
-  pub started_opens : (e : Engine) → IsLibrary e.library → SameBesidesLog new.files old.files → Only new.files new.may_leave
-      → IsShutInAll new.may_leave → new.may_leave new.files → Holds e.library e.images old.files → Opens old new (opened.Open e)
+  pub started_opens : (e : Engine) → IsLibrary e.store.library → SameBesidesLog new.files old.files → Only new.files new.may_leave
+      → IsShutInAll new.may_leave → new.may_leave new.files → Holds e.store.library e.store.images old.files → Opens old new (opened.Open e)
   started_opens e lib same only closes now holds =
       opens_as old new e (record { result = old.files; redo = closed shut refl; same = λ name other. sym (same name other) }) only closes now
-      (holds_besides e.library e.images old.files new.files lib (λ name other. sym (same name other)) holds)
+      (holds_besides e.store.library e.store.images old.files new.files lib (λ name other. sym (same name other)) holds)
 
 -- the log is redone, and then the disk is only read
 module _ (tells : Type 0) (told : tells) (old mid new : DiskState) (opens : IsOpen (old.files log_name)) (redoes : RedoesTo mid.files old.files)

@@ -9,7 +9,7 @@ use Rattle.vbm_registry.specs.Library.{library_name, spelling}
 use Rattle.vbm_registry.specs.Reading.{library_in}
 use Rattle.vbm_engine.specs.declared.engine.Made.{Made}
 use Rattle.vbm_engine.specs.declared.engine.Made.TheVariants as made
-use Rattle.vbm_engine.specs.Plans.{library_changes}
+use Rattle.vbm_store.specs.Plans.{library_changes}
 use Rattle.vbm_engine.specs.Opens.{empty_library}
 use Rattle.vbm_engine.specs.Recovers.{IsSettled}
 

@@ -1,15 +1,6 @@
-pub mod Undone
-pub mod Listed
-pub mod Keeps
-pub mod Kept
 pub mod Serves
 pub mod Steps
 pub mod Opens
-pub mod Plans
-pub mod Images
-pub mod Creates
 pub mod Inits
 pub mod Recovers
 pub mod Parts
-pub mod Closes
-pub mod Registers

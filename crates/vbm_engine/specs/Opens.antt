@@ -17,7 +17,7 @@ use Rattle.vbm_engine.specs.declared.engine.Opened.{Opened}
 use Rattle.vbm_engine.specs.declared.engine.Opened.TheVariants as opened
 use Rattle.vbm_engine.specs.declared.engine.Made.{Made}
 use Rattle.vbm_engine.specs.declared.engine.Made.TheVariants as made
-use Rattle.vbm_engine.specs.Kept.{AreKept}
+use Rattle.vbm_store.specs.Kept.{AreKept}
 use Rattle.vbm_engine.specs.Serves.{serves, IsSoundEngine, IsReady}
 
 -- The files as they were; or, where the log's gate was open, those after redo, the log aside, which is shut.
@@ -40,7 +40,7 @@ pub record AreKeptRedone (files : Files) (k : Library) (now : Files) : Type 0 wh
 -- memory it is left alone too, and stands for the same.
 abbrev pub Opens : DiskState → DiskState → Opened → Type 0
 Opens old new (opened.Open e) =
-    Stands old.files (Ok (serves e new.files)) × AreKeptRedone old.files e.library new.files × ((u : Unsettled) → IsReady e new u)
+    Stands old.files (Ok (serves e new.files)) × AreKeptRedone old.files e.store.library new.files × ((u : Unsettled) → IsReady e new u)
 Opens old new (opened.Refused bad) = Stands old.files (Err bad) × AreRedone old.files new.files
 Opens old new opened.Fault = Unit {0}
 Opens old new opened.NoMemory = StandsAlike old.files new.files × AreRedone old.files new.files

@@ -5,12 +5,12 @@ use Rattle.vbm_registry.specs.declared.fault.BadStore.{BadStore}
 use Rattle.vbm_registry.specs.declared.library.Library.{Library}
 use Rattle.vbm_registry.specs.declared.media.Medium.{Medium}
 use Rattle.vbm_registry.specs.Stands.{held_by, first_fault, own_fault, same_id_fault, id_in}
-use Rattle.vbm_engine.specs.declared.engine.Image.{Image}
+use Rattle.vbm_store.specs.declared.store.Image.{Image}
 use Rattle.vbm_engine.specs.declared.engine.Opened.{Opened}
 use Rattle.vbm_engine.specs.declared.engine.Opened.TheVariants as opened
-use Rattle.vbm_engine.specs.declared.undone.Undone.{Undone}
-use Rattle.vbm_engine.specs.declared.undone.Undone.TheVariants.{Refused, Failed, NoMemory}
-use Rattle.vbm_engine.specs.Serves.{Holds}
+use Rattle.vbm_store.specs.declared.undone.Undone.{Undone}
+use Rattle.vbm_store.specs.declared.undone.Undone.TheVariants.{Refused, Failed, NoMemory}
+use Rattle.vbm_store.specs.Serves.{Holds}
 
 abbrev pub OnBad : (BadStore → Type 0) → Undone BadStore → Type 0
 OnBad Q (Refused bad) = Q bad
@@ -32,7 +32,7 @@ fault_behind l files earlier m = first_fault (own_fault l files m) (same_id_faul
 
 -- the engine holds the files, or they hold a fault
 abbrev pub OpensOf : Files → Opened → Type 0
-OpensOf files (opened.Open e) = Holds e.library e.images files
+OpensOf files (opened.Open e) = Holds e.store.library e.store.images files
 OpensOf files (opened.Refused bad) = held_by files ≡ Err bad
 OpensOf files opened.Fault = Unit {0}
 OpensOf files opened.NoMemory = Unit {0}

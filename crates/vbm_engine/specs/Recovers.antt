@@ -5,8 +5,8 @@ use Rattle.vbm_ports.specs.Crash.{Only}
 use Rattle.vbm_intent.specs.Log.{IsOpen, IsShutInAll, IsBadLog, RedoesTo, recorded_size}
 use Rattle.vbm_intent.specs.declared.log.Log.{Log}
 use Rattle.vbm_engine.specs.declared.recover.BadLog.{BadLog}
-use Rattle.vbm_engine.specs.declared.undone.Undone.{Undone}
-use Rattle.vbm_engine.specs.declared.undone.Undone.TheVariants.{Refused, Failed, NoMemory}
+use Rattle.vbm_store.specs.declared.undone.Undone.{Undone}
+use Rattle.vbm_store.specs.declared.undone.Undone.TheVariants.{Refused, Failed, NoMemory}
 
 -- a crash leaves these files, with the log shut, and nothing else
 pub record IsSettled (s : DiskState) : Type 0 where

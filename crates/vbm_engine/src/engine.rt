@@ -1,27 +1,13 @@
 //! Engines.
 
-use vbm_header::Header;
-use vbm_intent::{Log, Plan};
-use vbm_ports::{Sequence, Text};
-use vbm_registry::{BadStore, Library};
+use vbm_registry::BadStore;
+use vbm_store::Store;
 use vbm_world::Answer;
 
-/// An image file, with its header as it is in the file.
-#[derive(Drop)]
-pub struct Image {
-    pub name: Text,
-    pub header: Header,
-}
-
-/// Images, those of the media first, in their order.
-pub type Images = Sequence<Image>;
-
-/// A store that is open.
+/// A store that is open, with its commands.
 #[derive(Drop)]
 pub struct Engine {
-    pub(crate) library: Library,
-    pub(crate) images: Images,
-    pub(crate) log: Log,
+    pub(crate) store: Store,
 }
 
 /// What opening a store gives.
@@ -46,24 +32,6 @@ pub enum Stepped {
     NoMemory(Engine),
     /// The disk failed. The store has to be opened again.
     Broken,
-}
-
-/// What is to be done for a command.
-#[derive(Drop)]
-pub(crate) enum Decided {
-    /// The answer leaves the store as it is.
-    Stay(Answer),
-    /// The plan is committed; then the library and the images are these, and the answer is given.
-    Turn {
-        library: Library,
-        images: Images,
-        plan: Plan,
-        answer: Answer,
-    },
-    /// There was no memory.
-    NoMemory,
-    /// The disk failed.
-    Failed,
 }
 
 /// How the making of a library ended.

@@ -4,23 +4,22 @@ ghost use Rattle.std.specs.Prelude.{◌≡◌, ◌≤◌, ◌⊎◌, None, IfOk}
 ghost use Rattle.vbm_ports.specs.Counts.{IsCounted};
 ghost use Rattle.vbm_ports.specs.Crash.{Only};
 ghost use Rattle.vbm_ports.specs.Disk.{Passes, OnlyReads};
-ghost use Rattle.vbm_intent.specs.Log.{IsLikeRedone};
 ghost use Rattle.vbm_ids.specs.Identifier.{IsSeed};
+ghost use Rattle.vbm_intent.specs.Log.{IsLikeRedone};
 ghost use Rattle.vbm_registry.specs.Library.{library_name};
 ghost use Rattle.vbm_engine.specs.Opens.{empty_library, Makes, SyncsFirst, RefusesBadLog, making_failed, StandsNew, IsMaking};
 ghost use Rattle.vbm_engine.specs.Recovers.{IsSettled};
 ghost use Rattle.vbm_engine.specs.Inits.{IsNewPlan, MakesOver, IsOver};
 
 use crate::engine::Made;
-use crate::plans::{LIBRARY_NAME, plan_library};
 use crate::recover::{BadLog, recover};
-use crate::undone::Undone;
 use std::alloc::Global;
 use uuid::Uuid;
 use vbm_intent::{Log, Plan};
 use vbm_machines::Machines;
 use vbm_ports::{Disk, Failed, NoMemory, Sequence};
 use vbm_registry::{BadStore, Library, Media};
+use vbm_store::{LIBRARY_NAME, Undone, plan_library};
 
 fn empty_library(alloc: Global, seed: Uuid) -> Library
     ensures { result ≡ empty_library seed }
@@ -37,26 +36,19 @@ fn empty_library(alloc: Global, seed: Uuid) -> Library
     }
 }
 
-// Sixteen bytes are a seed.
-fn are_seed(id: &[u8; 16])
-    ensures { IsSeed id.now }
+// The seed of these bytes: their type says that they are sixteen, and bytes.
+fn seed_of(bytes: &[u8; 16]) -> Uuid
+    ensures value { result ≡ bytes.now }
+    ensures seed { IsSeed bytes.now }
 {
-    let _seed = Uuid::from_bytes(*id);
-}
-
-// An identifier can be a seed.
-fn check_seed(seed: Uuid)
-    ensures { IsSeed seed }
-{
-    are_seed(&seed.into_bytes());
+    Uuid::from_bytes(*bytes)
 }
 
 // The writing of an empty library.
 fn new_plan(alloc: Global, seed: Uuid) -> Result<Plan, NoMemory>
     ensures { IfOk result (λ plan. IsNewPlan seed plan.changes) }
 {
-    check_seed(seed);
-    let library = empty_library(alloc, seed);
+    let library = empty_library(alloc, seed_of(&seed.into_bytes()));
     let mut plan = Plan::new(alloc);
     plan_library(alloc, &mut plan, &library)?;
     Ok(plan)

@@ -13,22 +13,21 @@ ghost use Rattle.vbm_intent.specs.Log.{IsOpen, recorded_size};
 ghost use Rattle.vbm_registry.specs.Library.{library_name, medium_entry_name, IsLibrary, IsQuiet};
 ghost use Rattle.vbm_registry.specs.Reading.{library_in};
 ghost use Rattle.vbm_registry.specs.Stands.{library_of, read_library, header_fault, file_fault, own_fault, same_id_fault, media_fault, held_by};
-ghost use Rattle.vbm_engine.specs.Undone.{is_failed, has_failed};
-ghost use Rattle.vbm_engine.specs.Images.{OpensImage, is_failed_image};
-ghost use Rattle.vbm_engine.specs.Serves.{image_name, image_in, Holds};
+ghost use Rattle.vbm_store.specs.Undone.{is_failed, has_failed};
+ghost use Rattle.vbm_store.specs.Images.{OpensImage, is_failed_image};
+ghost use Rattle.vbm_store.specs.Serves.{image_name, image_in, Holds};
 ghost use Rattle.vbm_engine.specs.Opens.{Opens, SyncsFirst, OpensSound, opening_failed, StandsAlike};
 ghost use Rattle.vbm_engine.specs.Parts.{OnBad, Finds, ids_of, fault_behind, OpensOf};
 
-use crate::engine::{Engine, Image, Images, Opened};
-use crate::image::{OpenFault, open_image};
+use crate::engine::{Engine, Opened};
 use crate::recover::{BadLog, recover_record};
-use crate::undone::Undone;
 use std::alloc::Global;
 use uuid::Uuid;
 use vbm_ids::is_foreign;
 use vbm_intent::{Log, record_size};
 use vbm_ports::{Disk, Failed, NoMemory, Text};
 use vbm_registry::{BadStore, DecodeFault, Library, Medium, decode};
+use vbm_store::{Image, Images, OpenFault, Store, Undone, open_image};
 
 const LIBRARY: &[u8] = b"library.vbm";
 
@@ -99,9 +98,11 @@ fn open_redone<D: Disk>(alloc: Global, disk: &mut D, log: Log) -> Opened
 {
     match load(alloc, disk) {
         Ok((library, images)) => Opened::Open(Engine {
-            library,
-            images,
-            log,
+            store: Store {
+                library,
+                images,
+                log,
+            },
         }),
         Err(Undone::Refused(bad)) => Opened::Refused(bad),
         Err(Undone::Failed) => Opened::Fault,
@@ -143,9 +144,11 @@ fn start<D: Disk>(disk: &mut D, library: Library, images: Images) -> Opened
 {
     match Log::start(disk) {
         Ok(log) => Opened::Open(Engine {
-            library,
-            images,
-            log,
+            store: Store {
+                library,
+                images,
+                log,
+            },
         }),
         Err(Failed) => Opened::Fault,
     }

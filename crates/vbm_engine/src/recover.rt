@@ -7,12 +7,12 @@ ghost use Rattle.vbm_ports.specs.Disk.{Passes};
 ghost use Rattle.vbm_intent.specs.Changes.{log_name};
 ghost use Rattle.vbm_intent.specs.Log.{IsLikeRedone};
 ghost use Rattle.vbm_engine.specs.Recovers.{IsWaiting, Recovers};
-ghost use Rattle.vbm_engine.specs.Undone.{has_failed};
+ghost use Rattle.vbm_store.specs.Undone.{has_failed};
 
-use crate::undone::Undone;
 use std::alloc::Global;
-use vbm_intent::{Log, Redone, record_size, redo};
+use vbm_intent::{INDEX_ROOM, Log, Redone, record_size, redo};
 use vbm_ports::{Disk, Failed, NoMemory};
+use vbm_store::Undone;
 
 /// The log's gate is open, but no record is behind it that fits the files.
 #[derive(Clone, Copy, Debug, PartialEq, Eq)]
@@ -54,13 +54,13 @@ pub(crate) fn recover_record<D: Disk>(
     }
 }
 
-// Room for the record that waits, if one does.
+// Room for the record that waits, if one does, and for an index of its changes.
 fn room_for(alloc: Global, size: Option<u32>) -> Result<Vec<u8>, NoMemory>
     requires { IfSome size (λ n. n ≤ 2 ^ 25) }
     ensures { IfOk result (λ room. IfSome size (λ n. 16 + n ≤ vec_len room)) }
 {
     let len = match size {
-        Some(n) => 16 + n as usize,
+        Some(n) => 16 + n as usize + INDEX_ROOM as usize,
         None => 0,
     };
     vec![in alloc; 0; len].map_err(|_| NoMemory)

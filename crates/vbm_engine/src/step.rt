@@ -8,30 +8,30 @@ ghost use Rattle.vbm_world.specs.World.{off};
 ghost use Rattle.vbm_world.specs.Loose.{Unsettled};
 ghost use Rattle.vbm_world.specs.Texts.{IsSpelled};
 ghost use Rattle.vbm_registry.specs.Stands.{Stands};
-ghost use Rattle.vbm_engine.specs.Kept.{AreKept};
-ghost use Rattle.vbm_engine.specs.Serves.{serves, IsSoundEngine, FitsDisk, IsReady, StandsLoosely};
-ghost use Rattle.vbm_engine.specs.Steps.{Hands, HandsSound, IsInStep, step_failed, Decides, DecidesSound, deciding_failed};
+ghost use Rattle.vbm_store.specs.Kept.{AreKept};
+ghost use Rattle.vbm_store.specs.Serves.{IsSoundStore, FitsDisk as StoreFits, StandsLoosely};
+ghost use Rattle.vbm_store.specs.Steps.{Decides, DecidesSound, deciding_failed};
+ghost use Rattle.vbm_engine.specs.Serves.{serves, IsSoundEngine, FitsDisk, IsReady};
+ghost use Rattle.vbm_engine.specs.Steps.{Hands, HandsSound, IsInCommand, step_failed};
 
-use crate::ask::{decide_list, decide_show};
-use crate::close::decide_close;
-use crate::create::decide_create;
-use crate::engine::{Decided, Engine, Stepped};
-use crate::register::decide_open;
+use crate::engine::{Engine, Stepped};
 use std::alloc::Global;
+use vbm_media::{decide_close, decide_create, decide_list, decide_open, decide_show};
 use vbm_ports::{Disk, Failed};
+use vbm_store::{Decided, Store};
 use vbm_world::Command;
 
 /// Decides a command: reads alone.
 pub(crate) fn decide<D: Disk>(
     alloc: Global,
-    engine: &Engine,
+    store: &Store,
     disk: &mut D,
     command: &Command,
 ) -> Decided
-    requires sound { IsSoundEngine engine.now }
+    requires sound { IsSoundStore store.now }
     requires spelled { IsSpelled command.now }
-    requires fits { D.tells → FitsDisk engine.now (D.state disk.old) }
-    ensures decides { D.tells → Decides (D.state disk.old).files engine.now command.now result }
+    requires fits { D.tells → StoreFits store.now (D.state disk.old) }
+    ensures decides { D.tells → Decides (D.state disk.old).files store.now command.now result }
     ensures sound { DecidesSound result }
     ensures reads { OnlyReads D.tells (D.state disk.old) (D.state disk.new) }
     ensures faults { IsCounted (deciding_failed result) (D.state disk.old).faults (D.state disk.new).faults }
@@ -41,13 +41,13 @@ pub(crate) fn decide<D: Disk>(
             name,
             size,
             variant,
-        } => decide_create(alloc, engine, disk, name, *size, *variant),
-        Command::OpenMedium { name } => decide_open(alloc, engine, disk, name.bytes()),
+        } => decide_create(alloc, store, disk, name, *size, *variant),
+        Command::OpenMedium { name } => decide_open(alloc, store, disk, name.bytes()),
         Command::CloseMedium { name, delete } => {
-            decide_close(alloc, engine, name.bytes(), *delete)
+            decide_close(alloc, store, name.bytes(), *delete)
         }
-        Command::ShowMediumInfo { name } => decide_show(engine, name.bytes()),
-        Command::ListHdds => decide_list(alloc, engine),
+        Command::ShowMediumInfo { name } => decide_show(store, name.bytes()),
+        Command::ListHdds => decide_list(alloc, store),
     }
 }
 
@@ -61,10 +61,10 @@ impl Engine {
         ensures step { D.tells → Hands (D.state disk.old) (D.state disk.new) self command.now result }
         ensures sound { HandsSound result }
         ensures any_moment { D.tells → (u : Unsettled) → IsReady self (D.state disk.old) u
-            → Passes (D.state disk.old) (D.state disk.new) (IsInStep (serves self (D.state disk.old).files) command.now u) }
+            → Passes (D.state disk.old) (D.state disk.new) (IsInCommand (serves self (D.state disk.old).files) command.now u) }
         ensures faults { IsCounted (step_failed result) (D.state disk.old).faults (D.state disk.new).faults }
     {
-        let decided = decide(alloc, &self, disk, command);
+        let decided = decide(alloc, &self.store, disk, command);
         match decided {
             Decided::Stay(answer) => Stepped::Next(self, answer),
             Decided::NoMemory => Stepped::NoMemory(self),
@@ -75,13 +75,15 @@ impl Engine {
                 plan,
                 answer,
             } => {
-                let mut log = self.log;
+                let mut log = self.store.log;
                 match log.commit(disk, &plan) {
                     Ok(()) => Stepped::Next(
                         Engine {
-                            library,
-                            images,
-                            log,
+                            store: Store {
+                                library,
+                                images,
+                                log,
+                            },
                         },
                         answer,
                     ),
@@ -101,7 +103,7 @@ impl Engine {
         ensures any_moment { D.tells → (u : Unsettled) → IsReady self (D.state disk.old) u
             → Passes (D.state disk.old) (D.state disk.new) (StandsLoosely (off (serves self (D.state disk.old).files)) u) }
         ensures kept { D.tells
-            → OnOk result (AreKept self.library (D.state disk.old).files self.library (D.state disk.new).files) }
+            → OnOk result (AreKept self.store.library (D.state disk.old).files self.store.library (D.state disk.new).files) }
         ensures faults { (D.state disk.old).faults ≤ (D.state disk.new).faults }
         ensures cause { OnErr result (Rose (D.state disk.old).faults (D.state disk.new).faults) }
         ensures no_fault { OnOk result ((D.state disk.new).faults ≡ (D.state disk.old).faults) }

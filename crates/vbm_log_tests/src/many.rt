@@ -2,8 +2,9 @@
 
 use crate::records::Part::{Remove, Write};
 use crate::records::{Part, log_of_changes};
-use crate::redo::{End, redo_log};
+use crate::redo::{End, put, redo_log};
 use std::alloc::Global;
+use std::process::Abort;
 use std::test::Fail;
 use std::time::Instant;
 use vbm_memdisk::MemDisk;
@@ -26,13 +27,18 @@ fn scattered(i: usize) -> u64 {
 }
 
 // The disk with a record of these changes and of one that begins past the end of its file.
-fn disk_of_changes(alloc: Global, changes: Vec<Part<'_>>, file: &[u8]) -> Result<MemDisk, Fail> {
+fn disk_of_changes(
+    rt: &impl Abort,
+    alloc: Global,
+    changes: Vec<Part<'_>>,
+    file: &[u8],
+) -> Result<MemDisk, Fail> {
     let mut changes = changes;
     changes.push(Write(B, 1, b"1"))?;
     let log = log_of_changes(alloc, &changes)?;
     let mut disk = MemDisk::new(alloc);
-    disk.put_file(A, file)?;
-    disk.put_file(LOG, &log)?;
+    put(rt, &mut disk, A, file)?;
+    put(rt, &mut disk, LOG, &log)?;
     Ok(disk)
 }
 
@@ -53,7 +59,7 @@ fn judges_many_changes_of_one_file(rt: HostRuntime) -> Result<(), Fail> {
         changes.push(Write(A, scattered(i), b"1"))?;
     }
     let file = vec![in alloc; 7u8; MOST]?;
-    let mut disk = disk_of_changes(alloc, changes, &file)?;
+    let mut disk = disk_of_changes(&rt, alloc, changes, &file)?;
     assert!(rt; is_judged_in_time(&rt, alloc, &mut disk)?);
     Ok(())
 }
@@ -67,7 +73,7 @@ fn judges_long_changes_of_one_file(rt: HostRuntime) -> Result<(), Fail> {
         changes.push(Write(A, scattered(i) * 480, &bytes))?;
     }
     let file = vec![in alloc; 7u8; MOST * 480]?;
-    let mut disk = disk_of_changes(alloc, changes, &file)?;
+    let mut disk = disk_of_changes(&rt, alloc, changes, &file)?;
     assert!(rt; is_judged_in_time(&rt, alloc, &mut disk)?);
     Ok(())
 }
@@ -83,7 +89,7 @@ fn judges_many_files(rt: HostRuntime) -> Result<(), Fail> {
     for name in &names {
         changes.push(Remove(name.as_bytes()))?;
     }
-    let mut disk = disk_of_changes(alloc, changes, b"")?;
+    let mut disk = disk_of_changes(&rt, alloc, changes, b"")?;
     assert!(rt; is_judged_in_time(&rt, alloc, &mut disk)?);
     Ok(())
 }

@@ -64,10 +64,20 @@ pub(crate) fn redo_in(alloc: Global, disk: &mut MemDisk, room: u32) -> Result<En
     Ok(end_of(redo(disk, &mut buf)))
 }
 
-fn put_log(rt: &impl Abort, disk: &mut MemDisk, log: &[u8]) -> Result<(), Fail> {
-    assert!(rt; log.len() < 1 << 30);
-    disk.put_file(LOG, log)?;
+/// Puts a file of less than a gigabyte on a disk.
+pub(crate) fn put(
+    rt: &impl Abort,
+    disk: &mut MemDisk,
+    name: &[u8],
+    bytes: &[u8],
+) -> Result<(), Fail> {
+    assert!(rt; bytes.len() < 1 << 30);
+    disk.put_file(name, bytes)?;
     Ok(())
+}
+
+fn put_log(rt: &impl Abort, disk: &mut MemDisk, log: &[u8]) -> Result<(), Fail> {
+    put(rt, disk, LOG, log)
 }
 
 // Whether the files but the log are the same on both disks.

@@ -14,12 +14,13 @@ use Rattle.vbm_world.specs.Texts.{line_of}
 use Rattle.vbm_registry.specs.Stands.{Stands}
 use Rattle.vbm_engine.specs.declared.engine.Engine.{Engine}
 use Rattle.vbm_engine.specs.declared.engine.Opened.TheVariants.{Open, Fault}
-use Rattle.vbm_engine.specs.Serves.{serves, IsSoundEngine, IsReady, StandsLoosely}
-use Rattle.vbm_engine.specs.Steps.{Advances, Stays, IsInStep}
+use Rattle.vbm_engine.specs.Serves.{serves, IsSoundEngine, IsReady}
+use Rattle.vbm_store.specs.Serves.{StandsLoosely}
+use Rattle.vbm_engine.specs.Steps.{Advances, Stays, IsInCommand}
 use Rattle.vbm_engine.specs.Opens.{StandsAlike, SyncsFirst}
 use Rattle.vbm_engine.proofs.Openings.{syncs_goes_on, opened_synced}
-use Rattle.vbm_engine.proofs.Readiness.{off_at_rest, ready_stands}
-use Rattle.vbm_engine.proofs.Turning.{before_step}
+use Rattle.vbm_engine.proofs.Serving.{ready_stands, before_step}
+use Rattle.vbm_store.proofs.Readiness.{off_at_rest}
 use Rattle.vbm_top.specs.declared.status.Status.{Status}
 use Rattle.vbm_top.specs.declared.status.Status.TheVariants.{NoMemory}
 use Rattle.vbm_top.specs.Streams.{Stream}
@@ -89,9 +90,9 @@ module _ (tells : Type 0) (files : Files) (e next : Engine) (c : Command) (a : A
       answered a (λ t. is_answered stood t (kept.1 t)) (subst (Says sink (line_of a) (status_of a)) (sym kept.0) says)
   next_ends sink wanted status stood leaves says (inr fails) = unclosed a wanted (is_unclosed stood leaves) says fails.0
 
-  pub next_passes : tells → Passes d1 d2 (IsInStep (serves e d1.files) c all_settled)
+  pub next_passes : tells → Passes d1 d2 (IsInCommand (serves e d1.files) c all_settled)
       → ((u : Unsettled) → IsReady next d2 u → Passes d2 d3 (StandsLoosely (off (serves next d2.files)) u))
-      → Passes d1 d3 (IsInStep (serves e d1.files) c all_settled)
+      → Passes d1 d3 (IsInCommand (serves e d1.files) c all_settled)
   next_passes t first second =
       Passes-trans d1 d2 d3 _ _ _ first (second all_settled (ready_after t)) (λ image is. is) (λ image is. inr (at_end image is))
     where
@@ -112,14 +113,14 @@ module _ (tells : Type 0) (files : Files) (e same : Engine) (c : Command) (d1 d2
       is_undone t closed = record {
         world = serves e d1.files;
         stood = stood t;
-        stands = subst (λ w. Stands d3.files (Ok w)) (ap off (stays t).same ∙ off_at_rest e.library d1.files) closed.stands;
+        stands = subst (λ w. Stands d3.files (Ok w)) (ap off (stays t).same ∙ off_at_rest e.store.library d1.files) closed.stands;
         settled = closed.settled;
       }
   memory_ends sink wanted status stood six none (inr fails) = broken none fails.0
 
-  pub memory_passes : tells → ((u : Unsettled) → IsReady e d1 u) → Passes d1 d2 (IsInStep (serves e d1.files) c all_settled)
+  pub memory_passes : tells → ((u : Unsettled) → IsReady e d1 u) → Passes d1 d2 (IsInCommand (serves e d1.files) c all_settled)
       → ((u : Unsettled) → IsReady same d2 u → Passes d2 d3 (StandsLoosely (off (serves same d2.files)) u))
-      → Passes d1 d3 (IsInStep (serves e d1.files) c all_settled)
+      → Passes d1 d3 (IsInCommand (serves e d1.files) c all_settled)
   memory_passes t ready first second =
       Passes-trans d1 d2 d3 _ _ _ first (second all_settled ((stays t).ready all_settled (ready all_settled))) (λ image is. is)
       (λ image is. before_step (serves e d1.files) c all_settled image (subst (λ w. StandsLoosely (off w) all_settled image) (stays t).same is))
@@ -132,14 +133,14 @@ opened_image c old image (inl before) = inl before
 opened_image c old image (inr alike) = inr (inl alike)
 
 pub run_passes : (c : Command) (e : Engine) (old mid new : DiskState) → Stands old.files (Ok (serves e mid.files))
-    → Passes old mid (λ image. old.may_leave image ⊎ StandsAlike old.files image) → Passes mid new (IsInStep (serves e mid.files) c all_settled)
+    → Passes old mid (λ image. old.may_leave image ⊎ StandsAlike old.files image) → Passes mid new (IsInCommand (serves e mid.files) c all_settled)
     → Passes old new (IsInRun c old)
 run_passes c e old mid new stood first second =
     Passes-trans old mid new _ _ _ first second (opened_image c old) (λ image is. inr (inr (serves e mid.files, stood, is)))
 
 pub run_syncs : (tells : Type 0) (c : Command) (e : Engine) (old mid new : DiskState) (status : Status) → Stands old.files (Ok (serves e mid.files))
     → SyncsFirst old mid (StandsAlike old.files) ⊎ ((Open e ≡ Fault) × OnlyReads tells old mid)
-    → Passes mid new (IsInStep (serves e mid.files) c all_settled)
+    → Passes mid new (IsInCommand (serves e mid.files) c all_settled)
     → SyncsOrFails tells old new status (IsOfCommand c old.files)
 run_syncs tells c e old mid new status stood synced second =
     inl (syncs_goes_on old mid new _ _ _ (opened_synced e synced) second (λ image alike. inl alike) (λ image is. inr (serves e mid.files, stood, is)))

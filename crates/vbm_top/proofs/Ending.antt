@@ -17,10 +17,10 @@ use Rattle.vbm_registry.specs.Stands.{Stands}
 use Rattle.vbm_lines.specs.Inputs.{AreRead, IsAllRead, IsCutOff, IsTooLong}
 use Rattle.vbm_lines.specs.Reader.{Reader, IsAt}
 use Rattle.vbm_engine.specs.declared.engine.Engine.{Engine}
-use Rattle.vbm_engine.specs.Serves.{serves, IsSoundEngine, IsReady, StandsLoosely}
-use Rattle.vbm_engine.specs.Steps.{IsInStep, Stays}
-use Rattle.vbm_engine.proofs.Readiness.{ready_stands}
-use Rattle.vbm_engine.proofs.Turning.{before_step}
+use Rattle.vbm_engine.specs.Serves.{serves, IsSoundEngine, IsReady}
+use Rattle.vbm_store.specs.Serves.{StandsLoosely}
+use Rattle.vbm_engine.specs.Steps.{IsInCommand, Stays}
+use Rattle.vbm_engine.proofs.Serving.{ready_stands, before_step}
 use Rattle.vbm_top.specs.declared.status.Status.{Status}
 use Rattle.vbm_top.specs.declared.status.Status.TheVariants.{Done, DiskFault, InputFault, NoMemory, InputTooLong}
 use Rattle.vbm_top.specs.Statuses.{ends_run}
@@ -120,10 +120,10 @@ same_command (Short bytes) c d is is' = one_command (words_in bytes) c d is.1 is
 same_command TooLong c d is is' = absurd is
 
 in_step : (w : World) (line : Line) (u : Unsettled) (command : Command) (image : Files) → IsCommandLine line command → IsAtLine w line u image
-    → IsInStep w command u image
+    → IsInCommand w command u image
 in_step w line u command image is (inl stands) = before_step w command u image stands
 in_step w line u command image is (inr step) =
-    subst (λ (c : Command). IsInStep w c u image) (same_command line step.0 command step.1 is) step.2
+    subst (λ (c : Command). IsInCommand w c u image) (same_command line step.0 command step.1 is) step.2
 
 -- ---- the ends of a run
 
@@ -230,7 +230,7 @@ module _ {tells : Type 0} {most : ℕ} {files : Files} {world : World} {io : Str
       any_moment = at_line;
     }
       where
-        images : (t : tells) (image : Files) → s2.may_leave image → IsInStep (serves e s.files) command (g.on_disk t).left image
+        images : (t : tells) (image : Files) → s2.may_leave image → IsInCommand (serves e s.files) command (g.on_disk t).left image
         images t image may =
             let d = g.on_disk t in
             elim ((step t d.left d.ready).only s.moment image (omega arith) (laws2.counts_now s.moment image (step t d.left d.ready).later may)) [

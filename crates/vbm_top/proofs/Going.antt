@@ -17,7 +17,8 @@ use Rattle.vbm_lines.specs.Inputs.{AreFirst, AreRead}
 use Rattle.vbm_lines.specs.Reader.{Reader, new_reader, IsAt}
 use Rattle.vbm_lines.proofs.Readers.{starts_at, are_read}
 use Rattle.vbm_engine.specs.declared.engine.Engine.{Engine}
-use Rattle.vbm_engine.specs.Serves.{serves, IsReady, StandsLoosely}
+use Rattle.vbm_engine.specs.Serves.{serves, IsReady}
+use Rattle.vbm_store.specs.Serves.{StandsLoosely}
 use Rattle.vbm_top.specs.declared.serving.Turned.TheVariants.{Open}
 use Rattle.vbm_top.specs.declared.status.Status.{Status}
 use Rattle.vbm_top.specs.declared.status.Status.TheVariants.{Done, Refused, OutputFault, NoMemory}

@@ -20,8 +20,9 @@ use Rattle.vbm_registry.specs.declared.fault.BadStore.{BadStore}
 use Rattle.vbm_registry.specs.declared.fault.BadStore.TheVariants.{NoLibrary, BadLog, BadLibrary, MissingFile, BadImage, WrongType, WrongId, BrokenLink, SameId}
 use Rattle.vbm_registry.specs.Stands.{Stands}
 use Rattle.vbm_engine.specs.declared.engine.Engine.{Engine}
-use Rattle.vbm_engine.specs.Serves.{serves, IsReady, StandsLoosely}
-use Rattle.vbm_engine.specs.Steps.{IsInStep}
+use Rattle.vbm_engine.specs.Serves.{serves, IsReady}
+use Rattle.vbm_store.specs.Serves.{StandsLoosely}
+use Rattle.vbm_engine.specs.Steps.{IsInCommand}
 use Rattle.vbm_engine.specs.Opens.{AreRedone, StandsAlike, SyncsFirst, IsMade, IsThere, IsMaking}
 use Rattle.vbm_top.specs.declared.status.Status.{Status}
 use Rattle.vbm_top.specs.declared.status.Status.TheVariants.{Done, Refused, DiskFault, OutputFault, NoMemory, StoreRefused}
@@ -162,7 +163,7 @@ Stood files P = (world : World) × Stands files (Ok world) × P world
 
 -- An image of a run of a command: it stands for what the files stood for, or is of the step.
 abbrev pub IsOfCommand : Command → Files → Files → Type 0
-IsOfCommand command files image = StandsAlike files image ⊎ Stood files (λ world. IsInStep world command all_settled image)
+IsOfCommand command files image = StandsAlike files image ⊎ Stood files (λ world. IsInCommand world command all_settled image)
 
 -- An image at some moment of a run of a command: until the first sync also one that a crash could have left before.
 abbrev pub IsInRun : Command → DiskState → Files → Type 0

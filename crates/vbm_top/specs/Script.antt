@@ -14,8 +14,8 @@ use Rattle.vbm_world.specs.Runs.{IsCommandLine, Untied, Runs}
 use Rattle.vbm_lines.specs.Inputs.{AreFirst, AreRead, IsAllRead, IsCutOff, IsTooLong}
 use Rattle.vbm_registry.specs.declared.fault.BadStore.{BadStore}
 use Rattle.vbm_registry.specs.Stands.{Stands}
-use Rattle.vbm_engine.specs.Serves.{StandsLoosely}
-use Rattle.vbm_engine.specs.Steps.{IsInStep}
+use Rattle.vbm_store.specs.Serves.{StandsLoosely}
+use Rattle.vbm_engine.specs.Steps.{IsInCommand}
 use Rattle.vbm_engine.specs.Opens.{AreRedone, StandsAlike}
 use Rattle.vbm_top.specs.declared.status.Status.{Status}
 use Rattle.vbm_top.specs.declared.status.Status.TheVariants.{Done, Refused, DiskFault, InputFault, OutputFault, NoMemory, StoreRefused, InputTooLong}
@@ -81,7 +81,7 @@ pub record IsRunBroken (lines : List Line) (line : Line) (answers : List Answer)
   pub runs : Runs Untied world all_settled lines answers last left
   pub command : Command
   pub is : IsCommandLine line command
-  pub images : (image : Files) → new.may_leave image → IsInStep last command left image
+  pub images : (image : Files) → new.may_leave image → IsInCommand last command left image
 
 -- How a run ends over a store that opened, where the files stood for its world.
 pub data LinesEnd (tells : Type 0) (most : ℕ) (files : Files) (new : DiskState) (s : Streams) (out : List Answer) (status : Status) : Type 0 where
@@ -126,7 +126,7 @@ pub record IsReached (given : Type 0) (most : ℕ) (world : World) (input : List
   pub runs : Runs Untied world all_settled lines answers last left
   pub out : length answers ≤ n
   pub is : (StandsLoosely (off last) left image × (given → AreFirst (lines_done most input) lines))
-      ⊎ ((line : Line) × (command : Command) × IsCommandLine line command × IsInStep last command left image
+      ⊎ ((line : Line) × (command : Command) × IsCommandLine line command × IsInCommand last command left image
       × (given → AreFirst (lines_done most input) (lines ++ line ∷ [])))
 
 -- an image that stands for what the files stood for, or of the run

@@ -12,8 +12,9 @@ use Rattle.vbm_world.specs.Runs.{IsCommandLine, IsBadLine, Untied, Does}
 use Rattle.vbm_lines.specs.Inputs.{AreRead, IsAllRead, IsCutOff, IsTooLong}
 use Rattle.vbm_lines.specs.Reader.{Reader, IsAt}
 use Rattle.vbm_engine.specs.declared.engine.Engine.{Engine}
-use Rattle.vbm_engine.specs.Serves.{serves, IsSoundEngine, IsReady, StandsLoosely}
-use Rattle.vbm_engine.specs.Steps.{Advances, Stays, IsInStep}
+use Rattle.vbm_engine.specs.Serves.{serves, IsSoundEngine, IsReady}
+use Rattle.vbm_store.specs.Serves.{StandsLoosely}
+use Rattle.vbm_engine.specs.Steps.{Advances, Stays, IsInCommand}
 use Rattle.vbm_top.specs.declared.scripting.Asked.{Asked}
 use Rattle.vbm_top.specs.declared.scripting.Asked.TheVariants as asked
 use Rattle.vbm_top.specs.declared.serving.Request.{Request}
@@ -103,4 +104,4 @@ TurnsLine tells old new e line Broken sink = (command : Command) × IsCommandLin
 -- an image at some moment of a line: of the world before it, or of its command's step
 abbrev pub IsAtLine : World → Line → Unsettled → Files → Type 0
 IsAtLine w line u image =
-    StandsLoosely (off w) u image ⊎ ((command : Command) × IsCommandLine line command × IsInStep w command u image)
+    StandsLoosely (off w) u image ⊎ ((command : Command) × IsCommandLine line command × IsInCommand w command u image)

@@ -8,7 +8,7 @@ ghost use Rattle.vbm_world.specs.Loose.{Unsettled, all_settled};
 ghost use Rattle.vbm_world.specs.Texts.{IsSpelled};
 ghost use Rattle.vbm_registry.specs.Stands.{Stands};
 ghost use Rattle.vbm_engine.specs.Serves.{serves, IsSoundEngine, IsReady};
-ghost use Rattle.vbm_engine.specs.Steps.{IsInStep};
+ghost use Rattle.vbm_engine.specs.Steps.{IsInCommand};
 ghost use Rattle.vbm_top.specs.Statuses.{is_disk_fault};
 ghost use Rattle.vbm_top.specs.Streams.{stream};
 ghost use Rattle.vbm_top.specs.Run.{CommandEnds, IsInRun, IsOfCommand, SyncsOrFails};
@@ -36,7 +36,7 @@ fn serve<D: Disk, K: Sink>(
         → CommandEnds D.tells command.now files (D.state disk.new)
         (stream K.tells K.written K.faults sink.old sink.new) result }
     ensures any_moment { D.tells
-        → Passes (D.state disk.old) (D.state disk.new) (IsInStep (serves engine (D.state disk.old).files) command.now all_settled) }
+        → Passes (D.state disk.old) (D.state disk.new) (IsInCommand (serves engine (D.state disk.old).files) command.now all_settled) }
     ensures faults { IsCounted (is_disk_fault result) (D.state disk.old).faults (D.state disk.new).faults }
 {
     match answer_command(alloc, engine, disk, sink, command) {

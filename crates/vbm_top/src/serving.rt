@@ -7,8 +7,9 @@ ghost use Rattle.vbm_world.specs.World.{off};
 ghost use Rattle.vbm_world.specs.Loose.{Unsettled};
 ghost use Rattle.vbm_world.specs.Texts.{IsSpelled};
 ghost use Rattle.vbm_lines.specs.Lines.{Line, Short, says_nothing};
-ghost use Rattle.vbm_engine.specs.Serves.{serves, IsSoundEngine, FitsDisk, IsReady, StandsLoosely};
-ghost use Rattle.vbm_engine.specs.Steps.{IsInStep};
+ghost use Rattle.vbm_engine.specs.Serves.{serves, IsSoundEngine, FitsDisk, IsReady};
+ghost use Rattle.vbm_store.specs.Serves.{StandsLoosely};
+ghost use Rattle.vbm_engine.specs.Steps.{IsInCommand};
 ghost use Rattle.vbm_top.specs.Streams.{stream};
 ghost use Rattle.vbm_top.specs.Run.{Closes, LeavesServed};
 ghost use Rattle.vbm_top.specs.Turns.{IsRequest, IsSpelledRequest, IsSoundTurn, has_broken, TurnsCommand, TurnsLine, IsAtLine};
@@ -57,7 +58,7 @@ pub(crate) fn answer_command<D: Disk, K: Sink>(
         (stream K.tells K.written K.faults sink.old sink.new) }
     ensures sound { IsSoundTurn result }
     ensures any_moment { D.tells → (u : Unsettled) → IsReady engine (D.state disk.old) u
-        → Passes (D.state disk.old) (D.state disk.new) (IsInStep (serves engine (D.state disk.old).files) command.now u) }
+        → Passes (D.state disk.old) (D.state disk.new) (IsInCommand (serves engine (D.state disk.old).files) command.now u) }
     ensures faults { IsCounted (has_broken result) (D.state disk.old).faults (D.state disk.new).faults }
 {
     match engine.step(alloc, disk, command) {

@@ -1,7 +1,7 @@
 use Rattle.std.proofs.Common.{◌≡◌, map, take}
 use Rattle.vbm_ports.specs.Disk.{OnlyReads}
 use Rattle.vbm_registry.specs.Library.{medium_entry_name}
-use Rattle.vbm_engine.specs.Serves.{image_name}
+use Rattle.vbm_store.specs.Serves.{image_name}
 use Rattle.vbm_engine.proofs.Openings.{Opening}
 use Rattle.vbm_engine.proofs.opening.open_images.Given as goal
 

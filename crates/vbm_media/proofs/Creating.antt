@@ -1,0 +1,267 @@
+-- Making a medium.
+use Rattle.std.proofs.Common.{◌≡◌, ℕ, ◌+◌, ◌^◌, Bool, true, false, List, [], ◌∷◌, ◌++◌, map, length, Option, Some, None, Ok, refl, sym, ap, subst, ◌∙◌, arith, is_some, IsTrue, inl, inr, bytes_eq, option_copied, Bor}
+use Rattle.std.specs.Prelude.{nat_le}
+use Rattle.std.specs.Option.{option_map}
+use Rattle.std.proofs.lemmas.Bool.{and_parts, cases_Bool, false_from_ne_true, eqb-true}
+use Rattle.std.proofs.lemmas.List.{length-map}
+use Rattle.std.proofs.lemmas.Slice.Eq.{bytes_eq-Decides}
+use Rattle.vbm_ports.specs.Files.{Files}
+use Rattle.vbm_ports.specs.Names.{is_name_character, is_medium_name, is_inner_name}
+use Rattle.vbm_header.specs.declared.Header.{Header}
+use Rattle.vbm_header.specs.Header.{is_differencing}
+use Rattle.vbm_volume.specs.Image.{image_of}
+use Rattle.vbm_volume.specs.Made.{made_image}
+use Rattle.vbm_volume.specs.declared.flat.Variant.TheVariants.{Standard}
+use Rattle.vbm_volume.proofs.NewImages.{made_accepted, made_flat}
+use Rattle.vbm_ids.specs.declared.Kind.TheVariants as kinds
+use Rattle.vbm_ids.specs.declared.TheConstants.{NUMBER_LIMIT}
+use Rattle.vbm_ids.specs.Identifier.{identifier_of, is_foreign}
+use Rattle.vbm_intent.specs.declared.change.Change.{Change}
+use Rattle.vbm_intent.specs.declared.log.Log.{Log}
+use Rattle.vbm_intent.specs.Changes.{of_file, changed}
+use Rattle.vbm_world.specs.declared.command.Command.TheVariants.{CreateMedium}
+use Rattle.vbm_world.specs.declared.command.Answer.{Answer}
+use Rattle.vbm_world.specs.declared.command.Answer.TheVariants.{Id}
+use Rattle.vbm_world.specs.declared.command.Size.{Size}
+use Rattle.vbm_named.specs.Names.{Name, has_name, put_by}
+use Rattle.vbm_world.specs.World.{World, medium_name, zero_disk}
+use Rattle.vbm_world.specs.declared.refusals.TheConstants.{MEDIA_LIMIT}
+use Rattle.vbm_world.specs.Refusals.{capacity_of, is_bad_size, first_refusal, create_checks}
+use Rattle.vbm_world.specs.Step.{Outcome, step_of, made_medium, refused_or}
+use Rattle.vbm_named.proofs.Lists.{name_sym, put_map}
+use Rattle.vbm_registry.specs.declared.media.Medium.{Medium}
+use Rattle.vbm_registry.specs.declared.library.Library.{Library}
+use Rattle.vbm_registry.specs.Library.{library_name, medium_entry_name, IsLibrary, IsQuiet}
+use Rattle.vbm_registry.specs.Stands.{shelved_file, header_in, medium_in, shelf_of, world_with, none_changed, read_library, library_file, library_of, id_in, IsStore}
+use Rattle.vbm_registry.proofs.Again.{read_again}
+use Rattle.vbm_registry.proofs.Stores.{SameFiles, SameBesides, same_media, header_frame, own_of_file, header_of_file, store_put, library_put}
+use Rattle.vbm_registry.proofs.Worlds.{is_medium_with, drawn_foreign, drawn_known, foreign_new, on_shelf, medium_of_file, with_shelved_none, world_put}
+use Rattle.vbm_store.specs.declared.store.Store.{Store}
+use Rattle.vbm_store.specs.declared.store.Image.{Image}
+use Rattle.vbm_store.specs.declared.store.Decided.{Decided}
+use Rattle.vbm_store.specs.declared.store.Decided.TheVariants as decided
+use Rattle.vbm_store.specs.Plans.{library_changes, image_changes}
+use Rattle.vbm_media.specs.Creates.{first_check, CanCreate, new_entry, library_made as made_library, IsNewMedium, MakesMedium, Creates}
+use Rattle.vbm_store.specs.Serves.{image_name, image_in, serves, IsSoundStore, Holds}
+use Rattle.vbm_store.specs.Kept.{KeepsBytes}
+use Rattle.vbm_store.specs.Steps.{Manages, Decides, DecidesSound}
+use Rattle.vbm_store.proofs.Keeping.{kept_media}
+use Rattle.vbm_store.proofs.Turning.{manages}
+use Rattle.vbm_store.proofs.Decisions.{medium_not_library, inner_not_library}
+use Rattle.vbm_store.proofs.Planned.{library_made, library_frame, library_fits, image_alone, image_made, image_fits, image_frame}
+
+-- ---- names
+
+inner_not_medium : (name : Name) → IsTrue (is_inner_name name) → is_medium_name name ≡ false
+unfolding is_medium_name is_inner_name
+inner_not_medium [] is = refl
+inner_not_medium (x ∷ xs) is = false_from_ne_true _ (λ named.
+    let first = and_parts _ _ (and_parts _ _ (and_parts _ _ (and_parts _ _ is).0).0).1 in
+    let brace : 123 ≡ x = eqb-true 123 x first.0 in
+    let all = and_parts _ _ (and_parts _ _ (and_parts _ _ named).0).1 in
+    let no : false ≡ true = ap is_name_character brace ∙ all.0 in
+    absurd cc)
+
+-- ---- refusals
+
+pub none_holds : (a b c d e : Bool) → first_check a b c d e ≡ None → (a ≡ false) × (b ≡ false) × (c ≡ false) × (d ≡ false) × (e ≡ false)
+none_holds true b c d e none = absurd cc
+none_holds false true c d e none = absurd cc
+none_holds false false true d e none = absurd cc
+none_holds false false false true e none = absurd cc
+none_holds false false false false true none = absurd cc
+none_holds false false false false false none = (refl, refl, refl, refl, refl)
+
+pub some_map : {X Y : Type 0} (f : X → Y) (o : Option X) → is_some (option_map f o) ≡ is_some o
+some_map f None = refl
+some_map f (Some x) = refl
+
+pub some_copied : {X : Type 0} (o : Option (Bor X)) → is_some o ≡ is_some (option_copied o)
+some_copied None = refl
+some_copied (Some x) = refl
+
+same_unless : (a b c d e f : Bool) → (a ≡ false → b ≡ c) → first_check a b d e f ≡ first_check a c d e f
+same_unless true b c d e f same = refl
+same_unless false b c d e f same = ap (λ x. first_check false x d e f) (same refl)
+
+pub refusal_is : (l : Library) (files : Files) (name : Name) (capacity : ℕ) → IsQuiet l → IsTrue (is_medium_name name)
+    → first_check (has_name medium_entry_name name l.media) (is_some (files name)) (is_bad_size capacity) (nat_le MEDIA_LIMIT (length l.media)) (nat_le NUMBER_LIMIT l.next)
+    ≡ first_refusal (create_checks (world_with none_changed l files) name capacity)
+unfolding world_with
+refusal_is l files name capacity quiet named =
+    let shelf : has_name medium_entry_name name l.media ≡ false → is_some (files name) ≡ is_some (shelf_of l files name) =
+    λ none. sym (ap is_some (on_shelf l files name named none quiet.making) ∙ some_map shelved_file (files name)) in
+    rw (is_medium_with none_changed l files name, length-map l.media (medium_in none_changed files))
+    (same_unless (has_name medium_entry_name name l.media) _ _ _ _ _ shelf)
+
+-- ---- the library and the images
+
+pub made_is_library : (l : Library) (name : Name) (capacity : ℕ) → IsLibrary l → IsTrue (is_medium_name name) → CanCreate l name capacity
+    → IsLibrary (made_library l name)
+made_is_library l name capacity is named can =
+    library_put l (new_entry name) (l.next + 1) is (record { name = named; mode = refl }) can.new can.room (omega (arith, can.next))
+
+pub made_is_quiet : (l : Library) (name : Name) → IsQuiet l → IsQuiet (made_library l name)
+made_is_quiet l name quiet = record { making = quiet.making; merging = quiet.merging }
+
+pub made_images : (e : Store) (name : Name) (h : Header) → IsSoundStore e
+    → map image_name (put_by image_name (record { name = name; header = h }) e.images) ≡ map medium_entry_name (made_library e.library name).media
+made_images e name h sound =
+    put_map image_name image_name (λ n. n) (λ x. refl) (record { name = name; header = h }) e.images
+    ∙ ap (put_by (λ n. n) name) sound.images
+    ∙ sym (put_map medium_entry_name medium_entry_name (λ n. n) (λ x. refl) (new_entry name) e.library.media)
+
+-- ---- the files and the world
+
+abbrev create_outcome : World → Name → ℕ → Outcome
+create_outcome w name capacity = (
+  Id (identifier_of w.seed kinds.Medium w.next),
+  record w { next = w.next + 1; media = put_by medium_name (made_medium w name capacity Standard) w.media },
+)
+
+kept : (o p : Option (List ℕ)) → p ≡ o → KeepsBytes o p
+kept None p same = tt
+kept (Some f) None same = tt
+kept (Some f) (Some g) same = cc
+
+-- a medium that no check refuses, over files that the store fits
+module _ (files : Files) (e : Store) (name : Name) (size : Size) (h : Header) (sound : IsSoundStore e) (holds : Holds e.library e.images files)
+    (named : IsTrue (is_medium_name name)) (can : CanCreate e.library name (capacity_of size)) (absent : files name ≡ None)
+    (medium : IsNewMedium e.library (capacity_of size) h) where
+  abbrev l : Library
+  l = e.library
+
+  abbrev made : Library
+  made = made_library e.library name
+
+  abbrev plan : List Change
+  plan = image_changes name h ++ library_changes made
+
+  abbrev now : Files
+  now = changed plan files
+
+  alone : of_file library_name (image_changes name h) ≡ []
+  alone = image_alone name library_name h (name_sym name library_name ∙ medium_not_library name named)
+
+  library_now : library_of now ≡ Ok made
+  library_now = ap library_file (library_made (image_changes name h) made files alone)
+      ∙ ap read_library (read_again made (made_is_library l name (capacity_of size) sound.library named can) (made_is_quiet l name sound.quiet))
+
+  file_now : now name ≡ Some (made_image h)
+  file_now = library_frame (image_changes name h) made files name (medium_not_library name named) ∙ image_made h medium.new name files medium.dynamic absent
+
+  same_now : (other : Name) → bytes_eq library_name other ≡ false → bytes_eq name other ≡ false → now other ≡ files other
+  same_now other not_library apart = library_frame (image_changes name h) made files other not_library ∙ image_frame name other h files apart
+
+  besides : SameBesides name files now
+  besides other is_name apart = same_now other (medium_not_library other is_name) (name_sym name other ∙ apart)
+
+  accepted_now : image_of (made_image h) ≡ Ok h
+  accepted_now = made_accepted h medium.new
+
+  header_now : header_in now name ≡ h
+  header_now = header_of_file now name (made_image h) h file_now accepted_now
+
+  new_known : is_foreign l.seed (l.next + 1) h.id ≡ false
+  new_known = ap (is_foreign l.seed (l.next + 1)) medium.id ∙ drawn_known l.seed sound.library.seed.long l.next can.next
+
+  new_foreign : is_foreign l.seed l.next (id_in now (new_entry name)) ≡ true
+  new_foreign = ap (is_foreign l.seed l.next) (ap (λ (x : Header). x.id) header_now ∙ medium.id) ∙ drawn_foreign l.seed sound.library.seed.long l.next can.next
+
+  same_files : SameFiles files now l.media
+  same_files = same_media l name files now sound.library besides can.new
+
+  store_now : IsStore made now
+  store_now = store_put l files now (new_entry name) (l.next + 1) holds.store (omega arith) same_files
+      (own_of_file (record l { next = l.next + 1 }) now (new_entry name) (made_image h) h file_now accepted_now
+      (ap is_differencing medium.dynamic) new_known)
+      (foreign_new l files (id_in now (new_entry name)) holds.store new_foreign)
+
+  images_same : (ms : List Medium) → SameFiles files now ms → map (image_in now) ms ≡ map (image_in files) ms
+  images_same [] same = refl
+  images_same (m ∷ ms) same = rw (header_frame files now m.name same.0, images_same ms same.1) refl
+
+  images_now : put_by image_name (record { name = name; header = h }) e.images ≡ map (image_in now) made.media
+  images_now =
+      ap (put_by image_name (record { name = name; header = h })) (holds.headers ∙ sym (images_same l.media same_files))
+      ∙ ap (λ x. put_by image_name (record { name = name; header = x }) (map (image_in now) l.media)) (sym header_now)
+      ∙ sym (put_map (image_in now) medium_entry_name image_name (λ m. refl) (new_entry name) l.media)
+
+  medium_now : medium_in none_changed now (new_entry name) ≡ made_medium (world_with none_changed l files) name (capacity_of size) Standard
+  unfolding world_with zero_disk
+  medium_now =
+      medium_of_file none_changed now (new_entry name) (made_image h) h file_now accepted_now
+      ∙ rw (made_flat h medium.new, medium.dynamic, medium.id, medium.modify, medium.capacity_is) refl
+
+  no_shelf : (world_with none_changed l files).shelf name ≡ None
+  unfolding world_with
+  no_shelf = on_shelf l files name named can.new sound.quiet.making ∙ ap (option_map shelved_file) absent
+
+  world_now : world_with none_changed made now ≡ (let w = world_with none_changed l files in
+      record w { next = l.next + 1; media = put_by medium_name (made_medium w name (capacity_of size) Standard) w.media })
+  world_now =
+      let w = world_with none_changed l files in
+      world_put none_changed l files now (new_entry name) (l.next + 1) sound.library besides can.new
+      ∙ (λ i. record w { next = l.next + 1; media = put_by medium_name (medium_now i) w.media; shelf = with_shelved_none w.shelf name no_shelf i })
+
+  step_now : first_refusal (create_checks (serves e files) name (capacity_of size)) ≡ None
+      → (Id h.id, world_with none_changed made now) ≡ step_of (serves e files) (CreateMedium name size Standard) 0
+  unfolding world_with
+  step_now none =
+      (λ i. (Id (medium.id i), world_now i))
+      ∙ ap (λ o. refused_or (serves e files) o (create_outcome (serves e files) name (capacity_of size))) (sym none)
+
+  pub created : first_refusal (create_checks (serves e files) name (capacity_of size)) ≡ None → (log : Log)
+      → Manages files e (CreateMedium name size Standard) plan
+      (record { library = made; images = put_by image_name (record { name = name; header = h }) e.images; log = log }) (Id h.id)
+  created none log = manages files e (CreateMedium name size Standard) plan
+      (record { library = made; images = put_by image_name (record { name = name; header = h }) e.images; log = log }) (Id h.id)
+      (record {
+        library = made_is_library l name (capacity_of size) sound.library named can;
+        quiet = made_is_quiet l name sound.quiet;
+        images = made_images e name h sound;
+      })
+      (library_fits (image_changes name h) made files alone (image_fits h medium.new name files absent))
+      (record { read = library_now; store = store_now; headers = images_now })
+      (step_now none)
+      (kept_media l made files now sound.library (λ other is_name. elim (cases_Bool (bytes_eq name other)) [
+        | inl is ↦
+            let same : name ≡ other = (bytes_eq-Decides name other).0 is in
+            subst (λ o. KeepsBytes o (now other)) (sym (ap files (sym same) ∙ absent)) tt
+        | inr apart ↦ kept (files other) (now other) (same_now other (medium_not_library other is_name) apart)
+      ]))
+      (λ other inner unlisted gone. same_now other (inner_not_library other inner) (false_from_ne_true _ (λ is.
+      let same : name ≡ other = (bytes_eq-Decides name other).0 is in
+      let no : true ≡ false = sym named ∙ ap is_medium_name same ∙ inner_not_medium other inner in
+      absurd cc)) ∙ gone)
+
+-- the same, of what the code decides
+turned : (files : Files) (e : Store) (name : Name) (size : Size) (library : Library) (images : List Image) (plan : List Change) (a : Answer)
+    → IsSoundStore e → Holds e.library e.images files → IsTrue (is_medium_name name) → CanCreate e.library name (capacity_of size)
+    → files name ≡ None → first_refusal (create_checks (serves e files) name (capacity_of size)) ≡ None
+    → MakesMedium e name (capacity_of size) library images plan a → (log : Log)
+    → Manages files e (CreateMedium name size Standard) plan (record { library = library; images = images; log = log }) a
+turned files e name size library images plan a sound holds named can absent none makes log =
+    let changes : plan ≡ image_changes name makes.header ++ library_changes (made_library e.library name) =
+    makes.changes ∙ ap (λ l. image_changes name makes.header ++ library_changes l) makes.made in
+    let t = created files e name size makes.header sound holds named can absent makes.medium none log in
+    rw (makes.made, makes.placed, changes, makes.answer) t
+
+pub decided_turn : (files : Files) (e : Store) (name : Name) (size : Size) (d : Decided)
+    → IsSoundStore e → Holds e.library e.images files → IsTrue (is_medium_name name) → CanCreate e.library name (capacity_of size)
+    → files name ≡ None → first_refusal (create_checks (serves e files) name (capacity_of size)) ≡ None
+    → Creates e name (capacity_of size) d → Decides files e (CreateMedium name size Standard) d
+decided_turn files e name size (decided.Stay a) sound holds named can absent none creates = absurd creates
+decided_turn files e name size (decided.Turn library images p a) sound holds named can absent none creates =
+    turned files e name size library images p.changes a sound holds named can absent none creates
+decided_turn files e name size decided.NoMemory sound holds named can absent none creates = absurd creates
+decided_turn files e name size decided.Failed sound holds named can absent none creates = absurd creates
+
+pub decided_sound : (e : Store) (name : Name) (capacity : ℕ) (d : Decided) → IsSoundStore e → IsTrue (is_medium_name name) → CanCreate e.library name capacity
+    → Creates e name capacity d → DecidesSound d
+decided_sound e name capacity (decided.Stay a) sound named can creates = absurd creates
+decided_sound e name capacity (decided.Turn library images p a) sound named can creates =
+    rw (creates.made, creates.placed)
+    (made_is_library e.library name capacity sound.library named can, made_is_quiet e.library name sound.quiet, made_images e name creates.header sound)
+decided_sound e name capacity decided.NoMemory sound named can creates = absurd creates
+decided_sound e name capacity decided.Failed sound named can creates = absurd creates

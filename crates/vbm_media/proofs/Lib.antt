@@ -1,0 +1,4 @@
+mod Creating
+mod Asks
+mod Closes
+mod Registers

@@ -1,0 +1,218 @@
+-- Opening a medium.
+use Rattle.std.proofs.Common.{◌≡◌, ℕ, ◌<◌, Bool, true, false, List, [], map, length, Option, Some, None, Result, Ok, Err, refl, sym, ap, subst, ◌∙◌, arith, cond, is_some, IsTrue}
+use Rattle.std.specs.Prelude.{nat_le}
+use Rattle.std.specs.List.{list_any}
+use Rattle.std.specs.Option.{option_map}
+use Rattle.std.specs.Str.{bytes_eq}
+use Rattle.std.proofs.lemmas.Bool.{leb-false}
+use Rattle.std.proofs.lemmas.List.{length-map}
+use Rattle.vbm_ports.specs.Files.{Files}
+use Rattle.vbm_ports.specs.Names.{is_medium_name}
+use Rattle.vbm_header.specs.declared.BadImage.{BadImage}
+use Rattle.vbm_header.specs.declared.Header.{Header}
+use Rattle.vbm_header.specs.Header.{is_differencing, condition_number}
+use Rattle.vbm_volume.specs.Image.{image_of}
+use Rattle.vbm_intent.specs.declared.change.Change.{Change}
+use Rattle.vbm_intent.specs.declared.log.Log.{Log}
+use Rattle.vbm_intent.specs.Changes.{changed}
+use Rattle.vbm_registry.specs.declared.media.Medium.{Medium}
+use Rattle.vbm_registry.specs.declared.library.Library.{Library}
+use Rattle.vbm_registry.specs.Library.{library_name, medium_entry_name, with_entry, IsLibrary, IsQuiet}
+use Rattle.vbm_registry.specs.Stands.{none_changed, header_in, medium_in, id_in, shelved_file, shelved_image, world_with, library_file, read_library}
+use Rattle.vbm_registry.proofs.Again.{read_again}
+use Rattle.vbm_registry.proofs.Stores.{SameBesides, SameFiles, same_media, header_frame, header_of_file, own_of_file, store_put, library_put}
+use Rattle.vbm_registry.proofs.Worlds.{is_medium_with, has_id_with, on_shelf, shelved_of_file, medium_of_file, world_put}
+use Rattle.vbm_named.specs.Names.{Name, find_by, has_name, put_by}
+use Rattle.vbm_world.specs.World.{World, medium_id, medium_name, with_shelved}
+use Rattle.vbm_ids.specs.Identifier.{is_foreign, has_id}
+use Rattle.vbm_world.specs.declared.refusals.TheConstants.{MEDIA_LIMIT}
+use Rattle.vbm_world.specs.Refusals.{first_refusal, file_checks, is_full}
+use Rattle.vbm_world.specs.Step.{Outcome, refused_or, opened, step_of}
+use Rattle.vbm_world.specs.Loose.{all_settled, is_refused}
+use Rattle.vbm_world.specs.declared.command.Answer.TheVariants.{Id, Refused}
+use Rattle.vbm_world.specs.declared.command.Command.TheVariants.{OpenMedium}
+use Rattle.vbm_world.specs.declared.command.Refusal.{Refusal}
+use Rattle.vbm_world.specs.declared.command.Refusal.TheVariants.{NameTaken, NoSuchFile, NotAnImage}
+use Rattle.vbm_named.proofs.Lists.{All-map, has_found, any_map, put_map}
+use Rattle.vbm_store.specs.declared.store.Store.{Store}
+use Rattle.vbm_store.specs.declared.store.Image.{Image}
+use Rattle.vbm_store.specs.declared.store.Decided.TheVariants as decided
+use Rattle.vbm_media.specs.Creates.{new_entry}
+use Rattle.vbm_store.specs.Images.{IsRead}
+use Rattle.vbm_store.specs.Plans.{library_changes}
+use Rattle.vbm_media.specs.Registers.{image_checks}
+use Rattle.vbm_store.specs.Serves.{serves, image_name, image_in, IsSoundStore, Holds}
+use Rattle.vbm_store.specs.Kept.{KeepsBytes}
+use Rattle.vbm_store.specs.Steps.{Manages, Decides}
+use Rattle.vbm_store.proofs.Keeping.{kept_media}
+use Rattle.vbm_store.proofs.Turning.{manages}
+use Rattle.vbm_store.proofs.Decisions.{medium_not_library, inner_not_library, kept_or}
+use Rattle.vbm_store.proofs.Planned.{library_made, library_frame, library_fits}
+use Rattle.vbm_store.proofs.Readiness.{images_same}
+
+passes : (b : Bool) (refusal : Refusal) (o : Option Refusal) → cond b (Some refusal) o ≡ None → (b ≡ false) × (o ≡ None)
+passes true refusal o e = absurd cc
+passes false refusal o e = (refl, e)
+
+-- an image that no check refuses
+record IsWelcome (l : Library) (images : List Image) (h : Header) : Type 0 where
+  new : list_any (λ (i : Image). bytes_eq i.header.id h.id) images ≡ false
+  known : is_foreign l.seed l.next h.id ≡ false
+  room : length l.media < MEDIA_LIMIT
+  whole : is_differencing h.image_type ≡ false
+
+welcome : (l : Library) (images : List Image) (h : Header) → first_refusal (image_checks l images h) ≡ None → IsWelcome l images h
+welcome l images h allowed =
+    let new = passes (list_any (λ (i : Image). bytes_eq i.header.id h.id) images) _ _ allowed in
+    let known = passes (is_foreign l.seed l.next h.id) _ _ new.1 in
+    let room = passes (nat_le MEDIA_LIMIT (length l.media)) _ _ known.1 in
+    let whole = passes (is_differencing h.image_type) _ _ room.1 in
+    record { new = new.0; known = known.0; room = leb-false MEDIA_LIMIT (length l.media) room.0; whole = whole.0 }
+
+-- a file that is read
+record IsFile (files : Files) (name : Name) (read : Result Header BadImage) : Type 0 where
+  file : List ℕ
+  there : files name ≡ Some file
+  is : image_of file ≡ read
+
+file_read : (files : Files) (name : Name) (read : Result Header BadImage) (o : Option (List ℕ))
+    → files name ≡ o → IsRead o read → IsFile files name read
+file_read files name read None there is = absurd is
+file_read files name read (Some f) there is = record { file = f; there = there; is = is }
+
+-- a command that refuses
+refuses : (e : Store) (files : Files) (name : Name) (refusal : Refusal)
+    → (Refused refusal, serves e files) ≡ step_of (serves e files) (OpenMedium name) 0
+    → Decides files e (OpenMedium name) (decided.Stay (Refused refusal))
+refuses e files name refusal by = (by, λ u. ap (λ (o : Outcome). cond (is_refused o.0) u all_settled) (sym by))
+
+pub opens_taken : (e : Store) (files : Files) (name : Name) (m : Medium) → find_by medium_entry_name name e.library.media ≡ Some m
+    → Decides files e (OpenMedium name) (decided.Stay (Refused NameTaken))
+opens_taken e files name m is = refuses e files name NameTaken
+    (rw (is_medium_with none_changed e.library files name ∙ has_found medium_entry_name name e.library.media ∙ ap is_some is) refl)
+
+pub images_more : (e : Store) (image : Image) → IsSoundStore e
+    → map image_name (put_by image_name image e.images) ≡ map medium_entry_name (put_by medium_entry_name (new_entry image.name) e.library.media)
+images_more e image sound =
+    put_map image_name image_name (λ n. n) (λ x. refl) image e.images
+    ∙ ap (put_by (λ n. n) image.name) sound.images
+    ∙ sym (put_map medium_entry_name medium_entry_name (λ n. n) (λ x. refl) (new_entry image.name) e.library.media)
+
+pub library_more : (e : Store) (h : Header) (name : Name) → first_refusal (image_checks e.library e.images h) ≡ None → IsLibrary e.library
+    → IsTrue (is_medium_name name) → has_name medium_entry_name name e.library.media ≡ false → IsLibrary (with_entry e.library (new_entry name))
+library_more e h name allowed lib named free =
+    library_put e.library (new_entry name) e.library.next lib (record { name = named; mode = refl }) free
+    (welcome e.library e.images h allowed).room lib.next
+
+-- with one medium more it is as quiet
+pub quiet_more : (e : Store) (name : Name) → IsQuiet e.library → IsQuiet (with_entry e.library (new_entry name))
+quiet_more e name quiet = record { making = quiet.making; merging = quiet.merging }
+
+module _ (e : Store) (files : Files) (name : Name) (holds : Holds e.library e.images files) (sound : IsSoundStore e)
+    (named : IsTrue (is_medium_name name)) (free : has_name medium_entry_name name e.library.media ≡ false) where
+  opens : step_of (serves e files) (OpenMedium name) 0 ≡ (let shelved = option_map shelved_file (files name) in
+      refused_or (serves e files) (first_refusal (file_checks (serves e files) shelved)) (opened (serves e files) name shelved))
+  unfolding world_with
+  opens = rw (is_medium_with none_changed e.library files name ∙ free, on_shelf e.library files name named free sound.quiet.making) refl
+
+  pub opens_missing : files name ≡ None → Decides files e (OpenMedium name) (decided.Stay (Refused NoSuchFile))
+  opens_missing none = refuses e files name NoSuchFile (sym (opens ∙ rw none refl))
+
+  pub opens_bad : (bad : BadImage) → IsRead (files name) (Err bad)
+      → Decides files e (OpenMedium name) (decided.Stay (Refused (NotAnImage (condition_number bad))))
+  opens_bad bad read =
+      let f = file_read files name (Err bad) (files name) refl read in
+      refuses e files name (NotAnImage (condition_number bad)) (sym (opens ∙ rw (f.there, shelved_of_file f.file (Err bad) f.is) refl))
+
+  has_id_here : (id : List ℕ) → has_id medium_id id (serves e files).media ≡ list_any (λ (i : Image). bytes_eq i.header.id id) e.images
+  has_id_here id =
+      has_id_with none_changed e.library files id
+      ∙ sym (ap (list_any (λ (i : Image). bytes_eq i.header.id id)) holds.headers
+      ∙ any_map (image_in files) (λ (i : Image). bytes_eq i.header.id id) e.library.media)
+
+  full_here : is_full (serves e files) ≡ nat_le MEDIA_LIMIT (length e.library.media)
+  unfolding world_with
+  full_here = ap (nat_le MEDIA_LIMIT) (length-map e.library.media (medium_in none_changed files))
+
+  module _ (h : Header) (read : IsRead (files name) (Ok h)) where
+    f : IsFile files name (Ok h)
+    f = file_read files name (Ok h) (files name) refl read
+
+    checks : (d : Bool) → is_differencing h.image_type ≡ d
+        → first_refusal (file_checks (serves e files) (Some (shelved_image f.file (Ok h)))) ≡ first_refusal (image_checks e.library e.images h)
+    unfolding world_with
+    checks true is = rw (is, has_id_here h.id, full_here) refl
+    checks false is = rw (is, has_id_here h.id, full_here) refl
+
+    opens_image : step_of (serves e files) (OpenMedium name) 0
+        ≡ refused_or (serves e files) (first_refusal (image_checks e.library e.images h))
+        (opened (serves e files) name (Some (shelved_image f.file (Ok h))))
+    opens_image = opens ∙ rw (f.there, shelved_of_file f.file (Ok h) f.is, checks (is_differencing h.image_type) refl) refl
+
+    pub opens_refused : (refusal : Refusal) → first_refusal (image_checks e.library e.images h) ≡ Some refusal
+        → Decides files e (OpenMedium name) (decided.Stay (Refused refusal))
+    opens_refused refusal is = refuses e files name refusal (sym (opens_image ∙ rw is refl))
+
+    module _ (allowed : first_refusal (image_checks e.library e.images h) ≡ None) where
+      is_welcome : IsWelcome e.library e.images h
+      is_welcome = welcome e.library e.images h allowed
+
+      abbrev more : Library
+      more = with_entry e.library (new_entry name)
+
+      abbrev now : Files
+      now = changed (library_changes more) files
+
+      frame : (n : Name) → bytes_eq library_name n ≡ false → now n ≡ files n
+      frame n other = library_frame [] more files n other
+
+      others : SameBesides name files now
+      others n is differs = frame n (medium_not_library n is)
+
+      here : now name ≡ Some f.file
+      here = frame name (medium_not_library name named) ∙ f.there
+
+      same : SameFiles files now e.library.media
+      same = same_media e.library name files now sound.library others free
+
+      header : header_in now name ≡ h
+      header = header_of_file now name f.file h here f.is
+
+      more_holds : Holds more (put_by image_name (record { name = name; header = h }) e.images) now
+      more_holds = record {
+        read = ap library_file (library_made [] more files refl) ∙ ap read_library (read_again more (library_more e h name allowed sound.library named free) (quiet_more e name sound.quiet));
+        store = store_put e.library files now (new_entry name) e.library.next holds.store (omega arith) same
+            (own_of_file e.library now (new_entry name) f.file h here f.is is_welcome.whole is_welcome.known)
+            (rw (id_in, header) (sym (has_id_with none_changed e.library files h.id) ∙ has_id_here h.id ∙ is_welcome.new));
+        headers = rw (sym header) (ap (put_by image_name (image_in now (new_entry name))) (holds.headers
+            ∙ sym (images_same files now e.library.media (All-map _ _ (λ m is. header_frame files now m.name is) e.library.media same)))
+            ∙ sym (put_map (image_in now) medium_entry_name image_name (λ m. refl) (new_entry name) e.library.media));
+      }
+
+      more_by : (Id h.id, world_with none_changed more now) ≡ step_of (serves e files) (OpenMedium name) 0
+      unfolding world_with
+      more_by =
+          let w = world_with none_changed e.library files in
+          rw (opens_image, allowed, is_welcome.whole) (ap (λ (v : World). (Id h.id, v))
+          (world_put none_changed e.library files now (new_entry name) e.library.next sound.library others free
+          ∙ ap (λ m. record w { media = put_by medium_name m w.media; shelf = with_shelved w.shelf name None })
+          (medium_of_file none_changed now (new_entry name) f.file h here f.is)))
+
+      opens_more : (log : Log) → Manages files e (OpenMedium name) (library_changes more)
+          (record { library = more; images = put_by image_name (record { name = name; header = h }) e.images; log = log }) (Id h.id)
+      opens_more log = manages files e (OpenMedium name) (library_changes more)
+          (record { library = more; images = put_by image_name (record { name = name; header = h }) e.images; log = log }) (Id h.id)
+          (record {
+            library = library_more e h name allowed sound.library named free;
+            quiet = quiet_more e name sound.quiet;
+            images = images_more e (record { name = name; header = h }) sound;
+          })
+          (library_fits [] more files refl (λ n. tt)) more_holds more_by
+          (kept_media e.library more files now sound.library
+          (λ n is. subst (KeepsBytes (files n)) (sym (frame n (medium_not_library n is))) (kept_or (files n) false)))
+          (λ n inner unlisted none. frame n (inner_not_library n inner) ∙ none)
+
+      pub registers : (k : Library) (images : List Image) (changes : List Change) → k ≡ more
+          → images ≡ put_by image_name (record { name = name; header = h }) e.images → changes ≡ library_changes more
+          → (log : Log) → Manages files e (OpenMedium name) changes (record { library = k; images = images; log = log }) (Id h.id)
+      registers k images changes k_is images_are changes_are log = rw (k_is, images_are, changes_are) (opens_more log)

@@ -1,0 +1,70 @@
+-- What the making of a medium is made of.
+use Rattle.std.specs.Prelude.{◌≡◌, ℕ, ◌+◌, ◌<◌, Bool, List, [], ◌∷◌, ◌++◌, length, Option, false}
+use Rattle.vbm_header.specs.declared.Header.{Header}
+use Rattle.vbm_header.specs.declared.ImageType.TheVariants.{Dynamic}
+use Rattle.vbm_volume.specs.Made.{IsNewHeader}
+use Rattle.vbm_ids.specs.declared.Kind.TheVariants as kinds
+use Rattle.vbm_ids.specs.declared.TheConstants.{NUMBER_LIMIT}
+use Rattle.vbm_ids.specs.Identifier.{identifier_of}
+use Rattle.vbm_modes.specs.declared.Mode.TheVariants.{Normal}
+use Rattle.vbm_intent.specs.declared.change.Change.{Change}
+use Rattle.vbm_world.specs.declared.command.Answer.{Answer}
+use Rattle.vbm_world.specs.declared.command.Answer.TheVariants.{Id}
+use Rattle.vbm_world.specs.declared.command.Refusal.{Refusal}
+use Rattle.vbm_world.specs.declared.command.Refusal.TheVariants.{NameTaken, FileExists, BadSize, Full, IdsSpent}
+use Rattle.vbm_world.specs.declared.command.Which.TheVariants.{Media}
+use Rattle.vbm_named.specs.Names.{Name, has_name, put_by}
+use Rattle.vbm_world.specs.declared.refusals.TheConstants.{MEDIA_LIMIT}
+use Rattle.vbm_world.specs.Refusals.{first_refusal, is_bad_size}
+use Rattle.vbm_registry.specs.declared.media.Medium.{Medium}
+use Rattle.vbm_registry.specs.declared.library.Library.{Library}
+use Rattle.vbm_registry.specs.Library.{medium_entry_name, with_entry}
+use Rattle.vbm_store.specs.declared.store.Store.{Store}
+use Rattle.vbm_store.specs.declared.store.Image.{Image}
+use Rattle.vbm_store.specs.declared.store.Decided.{Decided}
+use Rattle.vbm_store.specs.declared.store.Decided.TheVariants as decided
+use Rattle.vbm_store.specs.Plans.{library_changes, image_changes}
+use Rattle.vbm_store.specs.Serves.{image_name}
+
+-- the refusal, by whether each of the conditions holds
+abbrev pub first_check : Bool → Bool → Bool → Bool → Bool → Option Refusal
+first_check taken there bad_size full spent =
+    first_refusal ((taken, NameTaken) ∷ (there, FileExists) ∷ (bad_size, BadSize) ∷ (full, Full Media) ∷ (spent, IdsSpent) ∷ [])
+
+-- no condition on the library and the size holds
+pub record CanCreate (l : Library) (name : Name) (capacity : ℕ) : Type 0 where
+  pub new : has_name medium_entry_name name l.media ≡ false
+  pub size : is_bad_size capacity ≡ false
+  pub room : length l.media < MEDIA_LIMIT
+  pub next : l.next < NUMBER_LIMIT
+
+-- a normal medium
+abbrev pub new_entry : Name → Medium
+new_entry name = record { name = name; mode = Normal }
+
+-- the library with a new medium, for which one number more is drawn
+abbrev pub library_made : Library → Name → Library
+library_made l name = with_entry (record l { next = l.next + 1 }) (new_entry name)
+
+-- the header of the image of the library's next medium
+pub record IsNewMedium (l : Library) (capacity : ℕ) (h : Header) : Type 0 where
+  pub new : IsNewHeader h
+  pub dynamic : h.image_type ≡ Dynamic
+  pub capacity_is : h.capacity ≡ capacity
+  pub id : h.id ≡ identifier_of l.seed kinds.Medium l.next
+  pub modify : h.modify ≡ identifier_of l.seed kinds.Modify l.next
+
+-- what is decided where the medium is made
+pub record MakesMedium (e : Store) (name : Name) (capacity : ℕ) (library : Library) (images : List Image) (plan : List Change) (a : Answer) : Type 0 where
+  pub header : Header
+  pub medium : IsNewMedium e.library capacity header
+  pub made : library ≡ library_made e.library name
+  pub placed : images ≡ put_by image_name (record { name = name; header = header }) e.images
+  pub changes : plan ≡ image_changes name header ++ library_changes library
+  pub answer : a ≡ Id header.id
+
+abbrev pub Creates : Store → Name → ℕ → Decided → Type 0
+Creates e name capacity (decided.Stay a) = ⊥
+Creates e name capacity (decided.Turn library images plan a) = MakesMedium e name capacity library images plan.changes a
+Creates e name capacity decided.NoMemory = ⊥
+Creates e name capacity decided.Failed = ⊥

@@ -1,0 +1,82 @@
+//! Commands that ask: a store answers them without its disk.
+
+ghost use Rattle.std.specs.Prelude.{◌≡◌, false, map, IfOk};
+ghost use Rattle.vbm_ports.specs.Files.{Files};
+ghost use Rattle.vbm_registry.specs.Library.{medium_entry_name};
+ghost use Rattle.vbm_registry.specs.Stands.{variant_of as variant_by_type};
+ghost use Rattle.vbm_world.specs.declared.command.Command.TheVariants.{ShowMediumInfo, ListHdds};
+ghost use Rattle.vbm_world.specs.declared.command.Answer.TheVariants as answers;
+ghost use Rattle.vbm_store.specs.Serves.{Holds};
+ghost use Rattle.vbm_store.specs.Steps.{Decides, DecidesSound, deciding_failed};
+
+use std::alloc::Global;
+use vbm_header::ImageType;
+use vbm_named::names::find;
+use vbm_ports::{Names, NoMemory, Text};
+use vbm_registry::{Media, Medium};
+use vbm_store::{Decided, Image, Store};
+use vbm_volume::Variant;
+use vbm_world::{Answer, Refusal};
+
+fn variant_of(image_type: ImageType) -> Variant
+    ensures { result ≡ variant_by_type image_type }
+{
+    match image_type {
+        ImageType::Dynamic | ImageType::Differencing => Variant::Standard,
+        ImageType::Fixed => Variant::Fixed,
+    }
+}
+
+// No snapshot has a medium yet, so that none is frozen.
+fn info(medium: &Medium, image: &Image) -> Answer
+    ensures { result ≡ answers.Info image.now.header.id image.now.header.modify medium.now.mode
+        (variant_by_type image.now.header.image_type) image.now.header.capacity false }
+{
+    let header = &image.header;
+    Answer::Info {
+        id: header.id,
+        modify: header.modify,
+        mode: medium.mode,
+        variant: variant_of(header.image_type),
+        capacity: header.capacity,
+        frozen: false,
+    }
+}
+
+/// Decides `showmediuminfo`.
+pub fn decide_show(store: &Store, name: &[u8]) -> Decided
+    ensures decides { (files : Files) → Holds store.now.library store.now.images files
+        → Decides files store.now (ShowMediumInfo name.now) result }
+    ensures sound { DecidesSound result }
+    ensures no_fault { deciding_failed result ≡ false }
+{
+    let Some(medium) = store.library.media.find(name) else {
+        return Decided::Stay(Answer::Refused(Refusal::NoSuchMedium));
+    };
+    let Some(image) = find(store.images.as_slice(), name) else {
+        return Decided::Stay(Answer::Refused(Refusal::NoSuchMedium));
+    };
+    Decided::Stay(info(medium, image))
+}
+
+fn media_names(alloc: Global, media: &Media) -> Result<Names, NoMemory>
+    ensures { IfOk result (λ names. names ≡ map medium_entry_name media.now) }
+{
+    let mut names = Names::new(alloc);
+    for i in 0..media.len() {
+        names.push(Text::new(alloc, media.get(i).name.bytes())?)?;
+    }
+    Ok(names)
+}
+
+/// Decides `list hdds`.
+pub fn decide_list(alloc: Global, store: &Store) -> Decided
+    ensures decides { (files : Files) → Decides files store.now ListHdds result }
+    ensures sound { DecidesSound result }
+    ensures no_fault { deciding_failed result ≡ false }
+{
+    match media_names(alloc, &store.library.media) {
+        Ok(names) => Decided::Stay(Answer::MediaList(names)),
+        Err(NoMemory) => Decided::NoMemory,
+    }
+}

@@ -1,0 +1,177 @@
+-- Steps of a store that read, and then commit a plan.
+use Rattle.std.proofs.Common.{◌≡◌, ◌≢◌, ℕ, Bool, true, false, List, refl, sym, ap, subst, ◌∙◌, inl, inr, IsTrue}
+use Rattle.vbm_ports.specs.Files.{Files}
+use Rattle.vbm_ports.specs.Disk.{DiskState, Passes, OnlyReads}
+use Rattle.vbm_ports.specs.Crash.{Only}
+use Rattle.vbm_ports.specs.Names.{is_inner_name}
+use Rattle.vbm_ports.proofs.States.{Passes-trans, Passes-weaker}
+use Rattle.vbm_intent.specs.declared.change.Change.{Change}
+use Rattle.vbm_intent.specs.Changes.{log_name, changed, Fits}
+use Rattle.vbm_intent.specs.Log.{IsShutInAll, SameBesidesLog, RedoesTo, IsBeforeOrAfter, before, done}
+use Rattle.vbm_world.specs.declared.command.Command.{Command}
+use Rattle.vbm_world.specs.declared.command.Answer.{Answer}
+use Rattle.vbm_named.specs.Names.{Name}
+use Rattle.vbm_world.specs.World.{World, off}
+use Rattle.vbm_world.specs.Step.{step_of}
+use Rattle.vbm_world.specs.Loose.{Unsettled, all_settled, unsettled_after, IsLoosely}
+use Rattle.vbm_world.proofs.Worlds.{loosely_weaker}
+use Rattle.vbm_registry.specs.Stands.{none_changed}
+use Rattle.vbm_registry.proofs.Stores.{world_frame}
+use Rattle.vbm_store.specs.declared.store.Store.{Store}
+use Rattle.vbm_store.specs.declared.store.Decided.TheVariants as decided
+use Rattle.vbm_store.specs.Keeps.{Keeps, AllKeep, kind_of}
+use Rattle.vbm_store.specs.Kept.{AreKept}
+use Rattle.vbm_store.specs.Serves.{rests, serves, IsSoundStore, Holds, FitsDisk, touched, IsReady, StandsLoosely, both}
+use Rattle.vbm_store.specs.Turns.{Turns, IsInStep, Turned}
+use Rattle.vbm_store.specs.Steps.{HasNoStrays, Advances, Stays, Manages, Decides}
+use Rattle.vbm_store.proofs.Keeping.{kept_itself, kept_besides}
+use Rattle.vbm_store.proofs.Readiness.{same_files, same_media, holds_besides, unstaged_here, keeps_self, settled_ready, kept_redone, ready_stands, ready_redone}
+
+-- more sectors may be loose
+pub stands_more : (w : World) (u v : Unsettled) (image : Files) → StandsLoosely w u image → StandsLoosely w (both u v) image
+stands_more w u v image stands = record {
+  world = stands.world;
+  stands = stands.stands;
+  loosely = loosely_weaker u (both u v) (λ vm port sector t. rw t refl) w stands.world stands.loosely;
+}
+
+-- what only reads leaves no other
+pub read_passes : {tells : Type 0} {e : Store} {old new : DiskState} → OnlyReads tells old new → IsSoundStore e
+    → (u : Unsettled) → IsReady e old u → Passes old new (StandsLoosely (off (serves e old.files)) u)
+read_passes {e = e} {old = old} {new = new} reads sound u ready = Passes-weaker old new _ _ reads.time (ready_stands e old u sound ready)
+
+-- what only reads leaves the store as fit and as ready
+module _ {tells : Type 0} (told : tells) (e : Store) {old new : DiskState} (reads : OnlyReads tells old new) where
+  keeps_read : (loose : Name → ℕ → Bool) → AllKeep (kind_of e.library old.files) loose old.files old
+      → AllKeep (kind_of e.library new.files) loose new.files new
+  keeps_read loose keeps image may =
+      subst (λ f. Keeps (kind_of e.library f) loose f image) (sym (reads.files told)) (keeps image (reads.images image may))
+
+  fits_read : FitsDisk e old → FitsDisk e new
+  fits_read fits = record {
+    holds = subst (Holds e.library e.images) (sym (reads.files told)) fits.holds;
+    frame = keeps_read (λ name i. true) fits.frame;
+  }
+
+  pub ready_read : (u : Unsettled) → IsReady e old u → IsReady e new u
+  ready_read u ready = record {
+    fits = fits_read ready.fits;
+    quiet = ready.quiet;
+    keeps = keeps_read (touched e.library u) ready.keeps;
+    here = subst (λ f. IsLoosely u (off (serves e f)) (rests e.library f)) (sym (reads.files told)) ready.here;
+  }
+
+  module _ (sound : IsSoundStore e) where
+    pub kept_read : AreKept e.library old.files e.library new.files
+    kept_read = subst (AreKept e.library old.files e.library) (sym (reads.files told)) (kept_itself e.library old.files sound.library)
+
+    pub read_stays : FitsDisk e old → Stays old new e e
+    read_stays fits = record { same = ap (serves e) (reads.files told); fits = fits_read fits; ready = ready_read; kept = kept_read }
+
+    pub read_advances : FitsDisk e old → (c : Command) (a : Answer) → Decides old.files e c (decided.Stay a) → Advances old new e e c a
+    read_advances fits c a decides = record {
+      number = 0;
+      by = ap (λ f. (a, serves e f)) (reads.files told) ∙ decides.0;
+      fits = fits_read fits;
+      ready = λ u was. subst (IsReady e new) (sym (decides.1 u)) (ready_read u was);
+      kept = kept_read;
+      tidy = record {
+        quiet = sound.quiet;
+        strays = λ name inner unlisted none. ap (λ (f : Files). f name) (reads.files told) ∙ none;
+      };
+    }
+
+inner_not_log : (name : Name) → IsTrue (is_inner_name name) → name ≢ log_name
+unfolding is_inner_name
+inner_not_log name inner e = let t : false ≡ true = ap is_inner_name (sym e) ∙ inner in absurd cc
+
+-- ---- a commit
+
+module _ {u : Unsettled} {files : Files} {plan : List Change} {next : Store} {w : World} (turns : Turns u files plan next w) where
+  -- the files with the plan's changes
+  abbrev to : Files
+  to = changed plan files
+
+  -- what is redone to them stands for the world after the plan
+  after_stands : (image : Files) → RedoesTo to image → StandsLoosely (off w) u image
+  after_stands = kept_redone u next.library next.images to turns.sound.library turns.holds (off w) turns.here to
+      (keeps_self next.library to (touched next.library u) turns.sound.library turns.holds.store)
+
+  pub commit_turned : (new : DiskState) → SameBesidesLog new.files to → Only new.files new.may_leave → IsShutInAll new.may_leave
+      → new.may_leave new.files → Turned u next w new
+  commit_turned new same only shut now =
+      let lib = turns.sound.library in
+      let back : SameBesidesLog to new.files = λ name other. sym (same name other) in
+      let all = same_media to new.files back in
+      let world : rests next.library new.files ≡ rests next.library to =
+      world_frame to new.files all none_changed next.library (same_files next.library to new.files lib all) in
+      let serves_it : serves next new.files ≡ w = world ∙ turns.by in
+      let here : IsLoosely u (off (serves next new.files)) (rests next.library new.files) =
+      subst (λ v. IsLoosely u (off v) (rests next.library new.files)) (sym serves_it) (subst (IsLoosely u (off w)) (sym world) turns.here) in
+      record {
+        serves_it = serves_it;
+        sound = turns.sound;
+        ready = settled_ready next new u turns.sound (holds_besides next.library next.images to new.files lib back turns.holds)
+            turns.quiet here only shut now;
+      }
+
+  -- each image inside the commit stands for the world before it, or for that after it
+  pub commit_passes : (e : Store) (old new : DiskState) (v : Unsettled) → old.files ≡ files
+      → Passes old new (IsBeforeOrAfter plan old.files old.may_leave) → IsSoundStore e → IsReady e old v
+      → Passes old new (IsInStep (serves e old.files) v w u)
+  commit_passes e old new v is commits sound ready = Passes-weaker old new _ _ commits in_commit
+    where
+      in_commit : (image : Files) → IsBeforeOrAfter plan old.files old.may_leave image → IsInStep (serves e old.files) v w u image
+      in_commit image (before start was redoes) = inl (ready_redone e old v sound ready start was image redoes)
+      in_commit image (done redoes) = inr (after_stands image (subst (λ f. RedoesTo (changed plan f) image) is redoes))
+
+-- ---- a command that commits
+
+-- the facts of a plan that make it a command's, where nothing is staged
+pub manages : (files : Files) (e : Store) (c : Command) (plan : List Change) (next : Store) (a : Answer) → IsSoundStore next → Fits plan files
+    → Holds next.library next.images (changed plan files) → (a, serves next (changed plan files)) ≡ step_of (serves e files) c 0
+    → AreKept e.library files next.library (changed plan files) → HasNoStrays next.library files (changed plan files)
+    → Manages files e c plan next a
+manages files e c plan next a sound fits holds by kept strays = record {
+  world = serves next (changed plan files);
+  by = by;
+  turns = λ u. record {
+    fits = fits;
+    sound = sound;
+    quiet = sound.quiet;
+    holds = holds;
+    by = refl;
+    here = unstaged_here next (changed plan files) u;
+  };
+  kept = kept;
+  strays = strays;
+}
+
+-- a disk that is only read, and then takes the plan of a command
+module _ {tells : Type 0} {e : Store} {c : Command} {plan : List Change} {next : Store} {a : Answer} {old mid : DiskState} (told : tells)
+    (reads : OnlyReads tells old mid) (sound : IsSoundStore e) (owes : Manages old.files e c plan next a) where
+  pub manage_passes : (new : DiskState) → Passes mid new (IsBeforeOrAfter plan mid.files mid.may_leave) → (u v : Unsettled) → IsReady e old v
+      → Passes old new (IsInStep (serves e old.files) v owes.world u)
+  manage_passes new commits u v ready =
+      Passes-trans old mid new _ _ _ (read_passes reads sound v ready)
+      (commit_passes (owes.turns u) e mid new v (reads.files told) commits sound (ready_read told e reads v ready))
+      (λ image stands. inl stands)
+      (λ image is. subst (λ f. IsInStep (serves e f) v owes.world u image) (reads.files told) is)
+
+  pub manage_advances : (new : DiskState) → SameBesidesLog new.files (changed plan mid.files) → Only new.files new.may_leave
+      → IsShutInAll new.may_leave → new.may_leave new.files → Advances old new e next c a
+  manage_advances new same_mid only shut now =
+      let same : SameBesidesLog new.files (changed plan old.files) = subst (λ f. SameBesidesLog new.files (changed plan f)) (reads.files told) same_mid in
+      let turned : (u : Unsettled) → Turned u next owes.world new = λ u. commit_turned (owes.turns u) new same only shut now in
+      let settled = turned all_settled in
+      record {
+        number = 0;
+        by = ap (λ (w : World). (a, w)) settled.serves_it ∙ owes.by;
+        fits = settled.ready.fits;
+        ready = λ u was. (turned (unsettled_after u (serves e old.files) c)).ready;
+        kept = kept_besides e.library next.library old.files (changed plan old.files) new.files sound.library same owes.kept;
+        tidy = record {
+          quiet = settled.sound.quiet;
+          strays = λ name inner unlisted none. same name (inner_not_log name inner) ∙ owes.strays name inner unlisted none;
+        };
+      }

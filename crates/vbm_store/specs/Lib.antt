@@ -1,0 +1,9 @@
+pub mod Undone
+pub mod Listed
+pub mod Keeps
+pub mod Kept
+pub mod Serves
+pub mod Turns
+pub mod Steps
+pub mod Plans
+pub mod Images
