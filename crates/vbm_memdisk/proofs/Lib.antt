@@ -1,4 +1,5 @@
 pub mod FileLists
+pub mod FileNames
 pub mod Outcomes
 pub mod ByteLists
 pub mod Crashes

@@ -1,5 +1,5 @@
 -- Files that are kept as a list.
-use Rattle.std.specs.Prelude.{◌≡◌, ℕ, ◌+◌, ◌-◌, ◌<◌, List, [], ◌∷◌, ◌++◌, length, take, drop, replicate, slice_index_or, min, Option, Some, None, cond}
+use Rattle.std.specs.Prelude.{◌≡◌, ◌↔◌, Contains, IsSome, ℕ, ◌+◌, ◌-◌, ◌<◌, List, [], ◌∷◌, ◌++◌, length, take, drop, replicate, slice_index_or, min, Option, Some, None, cond}
 use Rattle.std.specs.Option.{option_map}
 use Rattle.std.specs.Str.{bytes_eq}
 use Rattle.vbm_ports.specs.Files.{Files, bytes_of, put}
@@ -42,3 +42,10 @@ filled from to byte bytes = take from bytes ++ replicate (min to (length bytes) 
 -- A write that leaves one byte all over its range and over a gap before it, as far as the file reaches.
 abbrev pub smeared : ℕ → ℕ → ℕ → List ℕ → Option (List ℕ) → Option (List ℕ)
 smeared byte at n kept old = option_map (filled (min at (length (bytes_of old))) (at + n) byte) (wrote at kept old)
+
+abbrev pub file_name : MemFile → List ℕ
+file_name file = file.name
+
+-- these are the names of the files
+abbrev pub AreNames : List (List ℕ) → Files → Type 0
+AreNames names files = (name : List ℕ) → Contains names name ↔ IsSome (files name)

@@ -8,13 +8,14 @@ ghost use Rattle.vbm_ports.specs.Names.{IsStoreName};
 ghost use Rattle.vbm_ports.specs.Crash.{WriteLeaves, CutLeaves, RemoveLeaves, Follows, Only};
 ghost use Rattle.vbm_ports.specs.Disk.{DiskState, Passes, CountsCall, OnlyReads};
 ghost use Rattle.vbm_memdisk.specs.declared.events.Event.TheVariants.{Cut, Removed, Synced};
+ghost use Rattle.vbm_memdisk.specs.Folders.{AreNames};
 ghost use Rattle.vbm_memdisk.specs.Past.{past_in, settled_past, with_event, picked_files, Writes, Puts};
 ghost use Rattle.vbm_memdisk.specs.MemDisk.{past_of, memory_state, failing_calls, stop_of, refused_of, IsListed, IsStopped, MustFail, KeepsFailures, KeepsCounts};
 
 use crate::Pick;
 use crate::history::History;
 use std::alloc::Global;
-use vbm_ports::{Disk, Failed, NoMemory, Sequence};
+use vbm_ports::{Disk, Failed, Names, NoMemory, Sequence};
 
 /// A disk in memory for tests. It fails at the calls that it is told to, and tells what a crash leaves.
 #[derive(Drop)]
@@ -80,6 +81,13 @@ impl MemDisk {
         ensures { option_copied result ≡ (memory_state self.now).files name.now }
     {
         self.history.file(name)
+    }
+
+    /// The names of the files.
+    pub fn names(&self) -> Result<Names, NoMemory>
+        ensures { IfOk result (λ names. AreNames names (memory_state self.now).files) }
+    {
+        self.history.names()
     }
 
     /// Makes the call with number k fail, where the first has number 0. A write that fails so writes the first half of its

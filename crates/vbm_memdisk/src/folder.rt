@@ -1,12 +1,12 @@
 //! Files by their names.
 
-ghost use Rattle.std.specs.Prelude.{◌≡◌, ℕ, ◌+◌, ◌-◌, ◌^◌, ◌<◌, ◌≤◌, List, [], ◌∷◌, ◌++◌, length, take, drop, replicate, min, Option, Some, None, IfOk, OnOk, OnErr, IfSome, MatchOption, option_copied};
+ghost use Rattle.std.specs.Prelude.{◌≡◌, ℕ, ◌+◌, ◌-◌, ◌^◌, ◌<◌, ◌≤◌, List, [], ◌∷◌, ◌++◌, length, map, take, drop, replicate, min, Option, Some, None, IfOk, OnOk, OnErr, IfSome, MatchOption, option_copied};
 ghost use Rattle.std.specs.Option.{option_map};
 ghost use Rattle.vbm_ports.specs.Files.{bytes_of, put, cut_to};
-ghost use Rattle.vbm_memdisk.specs.Folders.{files_of, files_in, with_file, wrote, filled, smeared, or_else, IsFirst};
+ghost use Rattle.vbm_memdisk.specs.Folders.{files_of, files_in, with_file, wrote, filled, smeared, or_else, file_name, IsFirst};
 
 use std::alloc::Global;
-use vbm_ports::{NoMemory, Text};
+use vbm_ports::{Names, NoMemory, Text};
 
 /// A file in memory.
 #[derive(Drop)]
@@ -143,6 +143,17 @@ impl Folder {
             Ok(bytes) => self.set(name, bytes),
             Err(_) => Err(NoMemory),
         }
+    }
+
+    /// The names of the files.
+    pub(crate) fn names(&self) -> Result<Names, NoMemory>
+        ensures { IfOk result (λ names. names ≡ map file_name self.now.files.items) }
+    {
+        let mut names = Names::new(self.alloc);
+        for file in &self.files {
+            names.push(Text::new(self.alloc, file.name.bytes())?)?;
+        }
+        Ok(names)
     }
 
     /// A copy of all files.

@@ -3,7 +3,7 @@
 ghost use Rattle.std.specs.Prelude.{◌≡◌, ◌+◌, ◌^◌, ◌≤◌, ℕ, List, [], ◌∷◌, ◌++◌, length, reverse, Option, None, IfOk, OnOk, OnErr, option_copied};
 ghost use Rattle.std.proofs.Props.{props};
 ghost use Rattle.vbm_ports.specs.Files.{bytes_of};
-ghost use Rattle.vbm_memdisk.specs.Folders.{files_in};
+ghost use Rattle.vbm_memdisk.specs.Folders.{files_in, AreNames};
 ghost use Rattle.vbm_memdisk.specs.Events.{after, files_after};
 
 use crate::Pick;
@@ -11,7 +11,7 @@ use crate::events::{Event, Whole, Write};
 use crate::folder::Folder;
 use crate::replay::{apply, replayed};
 use std::alloc::Global;
-use vbm_ports::{Bytes, NoMemory, Text};
+use vbm_ports::{Bytes, Names, NoMemory, Text};
 
 /// Settled files, what happened to them since, and the files that it left.
 #[derive(Drop)]
@@ -69,6 +69,13 @@ impl History {
         ensures { option_copied result ≡ files_now (past_in self.now) name.now }
     {
         self.present.get(name)
+    }
+
+    /// The names of the files.
+    pub(crate) fn names(&self) -> Result<Names, NoMemory>
+        ensures { IfOk result (λ names. AreNames names (files_now (past_in self.now))) }
+    {
+        self.present.names()
     }
 
     /// A write, of which the first `kept` bytes are read.
