@@ -34,7 +34,7 @@ fn words_of(alloc: Global, line: &str) -> Result<Vec<Text>, Fail> {
 }
 
 /// Runs a line of words: the status, and what was written.
-pub(crate) fn run_line(
+fn run_line(
     alloc: Global,
     disk: &mut MemDisk,
     line: &str,

@@ -1,4 +1,5 @@
-//! Tests of the store: the commands for media, stores that are refused, and runs that are stopped.
+//! Tests of the store: the commands for media, stores that are refused, and scripts. Runs that are stopped are scenarios of
+//! `vbm_lab`.
 #![tactic(auto)]
 
 #[cfg(test)]
@@ -9,5 +10,3 @@ mod refused;
 mod rows;
 #[cfg(test)]
 mod scripts;
-#[cfg(test)]
-mod stops;

@@ -1,11 +1,11 @@
-//! Scripts: lines in pieces, the ends of a run, and stops.
+//! Scripts: lines in pieces, and the ends of a run.
 
 use crate::fixtures::{CREATE_A, INIT, LIBRARY, LIST, copy, disk_after, expect};
 use std::alloc::Global;
 use std::process::Abort;
 use std::test::Fail;
 use uuid::Uuid;
-use vbm_memdisk::{MemDisk, MemSink, MemSource, Pick};
+use vbm_memdisk::{MemDisk, MemSink, MemSource};
 use vbm_ports::{Bytes, Text};
 use vbm_top::run;
 
@@ -344,59 +344,18 @@ fn answers_random_scripts_alike_in_any_pieces(rt: HostRuntime) -> Result<(), Fai
 const THREE: &str =
     "createmedium a.vdi --size 1\ncreatemedium b.vdi --size 1\ncreatemedium c.vdi --size 1\n";
 
-const TWO: &str = "createmedium a.vdi --size 1\ncreatemedium b.vdi --size 1\n";
-
 const TWO_ANSWERS: &str =
     "ok 00010203-0405-8600-8000-000000000000\nok 00010203-0405-8600-8000-000000000001\n";
 
 #[test]
-fn stops_in_the_third_command(rt: HostRuntime) -> Result<(), Fail> {
-    let store = disk_after(&rt, &[INIT])?;
+fn loses_an_answer_but_not_its_command(rt: HostRuntime) -> Result<(), Fail> {
+    let mut disk = disk_after(&rt, &[INIT])?;
     let short = Streams {
         limit: Some(80),
         ..PLAIN
     };
-    let mut disk = copy(&store)?;
     let (status, sink) = run_script(rt.alloc(), &mut disk, THREE.as_bytes(), short)?;
     assert_eq!(rt; status, 5);
     assert_eq!(rt; sink.written(), TWO_ANSWERS.as_bytes());
-    expect(&rt, &mut disk, LIST, 0, "ok 3 a.vdi b.vdi c.vdi\n")?;
-    let calls = disk_calls(&rt, &store, TWO.as_bytes())?;
-    let all = disk_calls(&rt, &store, THREE.as_bytes())?;
-    // The last call is the close, before which the third answer is out.
-    for k in calls.saturating_sub(1)..all.saturating_sub(1) {
-        stop_third(&rt, &store, k)?;
-    }
-    Ok(())
-}
-
-fn disk_calls(
-    rt: &(impl Abort + AllocGlobal),
-    store: &MemDisk,
-    script: &[u8],
-) -> Result<u64, Fail> {
-    let mut disk = copy(store)?;
-    run_script(rt.alloc(), &mut disk, script, PLAIN)?;
-    Ok(disk.calls())
-}
-
-// Stops the third command at a call: a crash leaves two media or three, and the answers of the first two are out.
-fn stop_third(rt: &(impl Abort + AllocGlobal), store: &MemDisk, k: u64) -> Result<(), Fail> {
-    let mut disk = copy(store)?;
-    disk.stop_at(k);
-    let (status, sink) = run_script(rt.alloc(), &mut disk, THREE.as_bytes(), PLAIN)?;
-    assert_eq!(rt; status, 3, "call {k}");
-    assert_eq!(rt; sink.written(), TWO_ANSWERS.as_bytes(), "call {k}");
-    for pick in [Pick::Old, Pick::New, Pick::Byte(7)] {
-        let mut image = disk.images_of_last_sync(pick)?;
-        let (status, sink) = run_script(rt.alloc(), &mut image, LIST.as_bytes(), PLAIN)?;
-        assert_eq!(rt; status, 0);
-        let two = "ok 2 a.vdi b.vdi\n".as_bytes();
-        let three = "ok 3 a.vdi b.vdi c.vdi\n".as_bytes();
-        assert!(rt;
-            sink.written() == two || sink.written() == three,
-            "call {k}"
-        );
-    }
-    Ok(())
+    expect(&rt, &mut disk, LIST, 0, "ok 3 a.vdi b.vdi c.vdi\n")
 }

@@ -1,29 +1,8 @@
-//! A disk and a sink that fail.
+//! A sink that fails.
 
 use crate::fixtures::{disk_of, expect, image, run_line, sector_line};
 use std::test::Fail;
 use vbm_memdisk::MemDisk;
-
-#[test]
-fn fails_with_its_disk(rt: HostRuntime) -> Result<(), Fail> {
-    let alloc = rt.alloc();
-    let file = image(alloc)?;
-    let sector = sector_line(alloc, "01")?;
-    // The length, the header, the block map and the sector; a fifth call is never made.
-    for (k, status, written, calls) in [
-        (0, 3, "", 1),
-        (1, 3, "", 2),
-        (2, 3, "", 3),
-        (3, 3, "", 4),
-        (4, 0, sector.as_str(), 4),
-    ] {
-        let mut disk = disk_of(&rt, file.as_slice())?;
-        disk.fail_call(k)?;
-        expect(&rt, &mut disk, "peek p.vdi 4096", status, written)?;
-        assert_eq!(rt; disk.calls(), calls, "call {k} fails");
-    }
-    Ok(())
-}
 
 #[test]
 fn fails_with_its_sink(rt: HostRuntime) -> Result<(), Fail> {
