@@ -75,7 +75,7 @@ fn read_part(alloc: Global, scenario: &mut Scenario, word: &str, rest: &str) -> 
 // Reads how it is tried.
 fn read_mark(scenario: &mut Scenario, word: &str, rest: &str) -> Result<(), Ended> {
     match word {
-        "byte" => scenario.byte = read_byte(rest)?,
+        "byte" => scenario.add_byte(read_byte(rest)?)?,
         "stops" => scenario.stops = true,
         "faults" => scenario.faults = true,
         "once" => scenario.once = true,

@@ -57,8 +57,8 @@ pub(crate) struct Scenario {
     pub(crate) unsettled: Vec<Unsettled>,
     pub(crate) tested: Play,
     pub(crate) asking: Play,
-    /// The byte all over what was written since the last sync.
-    pub(crate) byte: u8,
+    /// The bytes of which each is all over what was written since the last sync. None are one 7.
+    bytes: Vec<u8>,
     pub(crate) stops: bool,
     pub(crate) faults: bool,
     /// Whether the reopening of an image is not stopped.
@@ -77,12 +77,26 @@ impl Scenario {
             unsettled: Vec::new(alloc),
             tested: Play::new(alloc),
             asking: Play::new(alloc),
-            byte: 7,
+            bytes: Vec::new(alloc),
             stops: false,
             faults: false,
             once: false,
             violations: false,
         }
+    }
+
+    /// One byte more.
+    pub(crate) fn add_byte(&mut self, byte: u8) -> Result<(), Ended> {
+        self.bytes.push(byte)?;
+        Ok(())
+    }
+
+    /// The bytes of which each is all over what was written since the last sync.
+    pub(crate) fn bytes(&self) -> &[u8] {
+        if self.bytes.is_empty() {
+            return &[7];
+        }
+        self.bytes.as_slice()
     }
 
     /// What it lacks.

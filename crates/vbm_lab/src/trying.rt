@@ -28,11 +28,24 @@ pub(crate) struct Bench<'a> {
     pub(crate) kind: Kind,
 }
 
+impl Bench<'_> {
+    // What a crash leaves of a reopening: the byte of the image, or the first.
+    fn torn_pick(self, place: Place) -> Pick {
+        match (place.pick, self.scenario.bytes()) {
+            (Pick::Byte(byte), _) => Pick::Byte(byte),
+            (_, [byte, ..]) => Pick::Byte(*byte),
+            _ => Pick::New,
+        }
+    }
+}
+
 /// Tries each call of the lines under test, with each image that a crash may leave then.
 pub(crate) fn try_calls(bench: Bench) -> Result<Findings, Ended> {
     let mut findings = Findings::new(bench.alloc);
-    for pick in [Pick::Old, Pick::New, Pick::Byte(bench.scenario.byte)] {
-        try_pick(bench, pick, &mut findings)?;
+    try_pick(bench, Pick::Old, &mut findings)?;
+    try_pick(bench, Pick::New, &mut findings)?;
+    for byte in bench.scenario.bytes() {
+        try_pick(bench, Pick::Byte(*byte), &mut findings)?;
     }
     Ok(findings)
 }
@@ -135,7 +148,7 @@ fn stop_reopening(
     disk.stop_at(place.reopening.unwrap_or(0));
     let outcome = run_play(bench.alloc, &mut disk, &bench.scenario.asking)?;
     check_outcome(&outcome, found, place, findings)?;
-    let mut left = disk.images_of_last_sync(Pick::Byte(bench.scenario.byte))?;
+    let mut left = disk.images_of_last_sync(bench.torn_pick(place))?;
     let again = ask(bench.alloc, &mut left, &bench.scenario.asking)?;
     if again.as_slice() == found {
         return Ok(());
