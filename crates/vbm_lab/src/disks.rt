@@ -126,9 +126,8 @@ fn is_written(disk: &mut MemDisk, name: &[u8], bytes: &[u8]) -> bool {
 /// What asking lines find: what they write, and then a line with the status and with the files whose names end as those of images.
 pub(crate) fn ask(alloc: Global, disk: &mut MemDisk, asking: &Play) -> Result<Vec<u8>, Ended> {
     let outcome = run_play(alloc, disk, asking)?;
-    let mut found = outcome.written;
-    let status = outcome.status;
-    found.extend_from_slice(format!(in alloc; "status {status}, files")?.as_bytes())?;
+    let mut found = outcome.text(alloc)?;
+    found.extend_from_slice(b", files")?;
     for name in &image_names(alloc, disk)? {
         found.push(b' ')?;
         found.extend_from_slice(name.as_slice())?;

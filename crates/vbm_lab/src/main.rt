@@ -30,7 +30,8 @@ fn main(rt: HostRuntime) -> ExitCode {
             let _ = println!(rt; "line {line}: {what}");
             ExitCode::from(2)
         }
-        Err(Ended::Here(_) | Ended::Input) => ExitCode::from(4),
+        Err(Ended::Here(_)) => ExitCode::from(2),
+        Err(Ended::Input) => ExitCode::from(4),
         Err(Ended::Output) => ExitCode::from(5),
         Err(Ended::Memory) => ExitCode::from(6),
     }

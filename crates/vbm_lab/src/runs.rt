@@ -18,6 +18,16 @@ pub(crate) struct Outcome {
     pub(crate) written: Vec<u8>,
 }
 
+impl Outcome {
+    /// What was written, and a line with the status.
+    pub(crate) fn text(&self, alloc: Global) -> Result<Vec<u8>, Ended> {
+        let status = self.status;
+        let mut text = Vec::from_slice(alloc, self.written.as_slice())?;
+        text.extend_from_slice(format!(in alloc; "status {status}")?.as_bytes())?;
+        Ok(text)
+    }
+}
+
 /// Runs the first n lines of a play. As words they are runs in a row, up to the first in which the disk fails.
 pub(crate) fn run_some(
     alloc: Global,

@@ -84,12 +84,13 @@ fn run_broken(
         Kind::Fault => disk.fail_call(call)?,
     }
     let outcome = run_play(bench.alloc, disk, &bench.scenario.tested)?;
-    check_outcome(&outcome, &bench.right.written, place, findings)?;
+    check_outcome(bench.alloc, &outcome, &bench.right.written, place, findings)?;
     Ok(count_lines(&outcome.written))
 }
 
 // A run that the disk broke off ends with the status of that, and writes a beginning of what the whole run writes.
 fn check_outcome(
+    alloc: Global,
     outcome: &Outcome,
     whole: &[u8],
     place: Place,
@@ -98,7 +99,11 @@ fn check_outcome(
     if outcome.status == status::DISK_FAULT && whole.starts_with(&outcome.written) {
         return Ok(());
     }
-    findings.add(place, whole, &outcome.written)
+    let wanted = Outcome {
+        status: status::DISK_FAULT,
+        written: Vec::from_slice(alloc, whole)?,
+    };
+    findings.add(place, &wanted.text(alloc)?, &outcome.text(alloc)?)
 }
 
 // An image stands after the lines that were answered, or after one more.
@@ -147,7 +152,7 @@ fn stop_reopening(
     let mut disk = copy(image)?;
     disk.stop_at(place.reopening.unwrap_or(0));
     let outcome = run_play(bench.alloc, &mut disk, &bench.scenario.asking)?;
-    check_outcome(&outcome, found, place, findings)?;
+    check_outcome(bench.alloc, &outcome, found, place, findings)?;
     let mut left = disk.images_of_last_sync(bench.torn_pick(place))?;
     let again = ask(bench.alloc, &mut left, &bench.scenario.asking)?;
     if again.as_slice() == found {
