@@ -34,11 +34,7 @@ fn words_of(alloc: Global, line: &str) -> Result<Vec<Text>, Fail> {
 }
 
 /// Runs a line of words: the status, and what was written.
-fn run_line(
-    alloc: Global,
-    disk: &mut MemDisk,
-    line: &str,
-) -> Result<(u8, MemSink), Fail> {
+fn run_line(alloc: Global, disk: &mut MemDisk, line: &str) -> Result<(u8, MemSink), Fail> {
     let words = words_of(alloc, line)?;
     let mut source = MemSource::new(Bytes::new(alloc), 1, None);
     let mut sink = MemSink::new(alloc, None);
