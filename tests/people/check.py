@@ -135,8 +135,9 @@ def own_statuses():
 
 def statuses():
     """The numbers of the statuses, each with what standard error says."""
-    numbers = dict(re.findall(r"pub const (\w+): u8 = (\d+);", text("crates", "vbm_top", "src", "status.rt")))
-    said = dict(re.findall(r'status::(\w+) => Some\("([^"]*)"\)', text("crates", "vbm", "src", "main.rt")))
+    main = text("crates", "vbm", "src", "main.rt")
+    numbers = dict(re.findall(r"const (\w+): u8 = (\d+);", text("crates", "vbm_top", "src", "status.rt") + main))
+    said = dict(re.findall(r'(?:status::)?(\w+) => Some\("([^"]*)"\)', main))
     return {"%s %s" % (n, said[name]) if name in said else n for name, n in numbers.items()}
 
 
