@@ -1,5 +1,7 @@
 //! Records of as many changes as there may be, which are judged at once.
 
+ghost use Rattle.std.specs.Prelude.{◌<◌};
+
 use crate::records::Part::{Remove, Write};
 use crate::records::{Part, log_of_changes};
 use crate::redo::{End, put, redo_log};
@@ -22,7 +24,9 @@ const MOST: usize = 65_536;
 const LONGEST: u128 = 20_000;
 
 // The place of a write in a file that all writes fill, each at another place than its number.
-fn scattered(i: usize) -> u64 {
+fn scattered(i: usize) -> u64
+    ensures { result < 65536 }
+{
     (i as u64 % MOST as u64) * 40_503 % MOST as u64
 }
 
