@@ -18,7 +18,7 @@ use crate::engine::{Engine, Stepped};
 use std::alloc::Global;
 use vbm_media::{decide_close, decide_create, decide_list, decide_open, decide_show};
 use vbm_ports::{Disk, Failed};
-use vbm_store::{Decided, Store};
+use vbm_store::{Committed, Decided, Store};
 use vbm_world::Command;
 
 /// Decides a command: reads alone.
@@ -32,7 +32,7 @@ pub(crate) fn decide<D: Disk>(
     requires spelled { IsSpelled command.now }
     requires fits { D.tells → StoreFits store.now (D.state disk.old) }
     ensures decides { D.tells → Decides (D.state disk.old).files store.now command.now result }
-    ensures sound { DecidesSound result }
+    ensures sound { DecidesSound store.now result }
     ensures reads { OnlyReads D.tells (D.state disk.old) (D.state disk.new) }
     ensures faults { IsCounted (deciding_failed result) (D.state disk.old).faults (D.state disk.new).faults }
 {
@@ -71,25 +71,14 @@ impl Engine {
             Decided::Failed => Stepped::Broken,
             Decided::Turn {
                 library,
-                images,
+                edit,
                 plan,
                 answer,
-            } => {
-                let mut log = self.store.log;
-                match log.commit(disk, &plan) {
-                    Ok(()) => Stepped::Next(
-                        Engine {
-                            store: Store {
-                                library,
-                                images,
-                                log,
-                            },
-                        },
-                        answer,
-                    ),
-                    Err(Failed) => Stepped::Broken,
-                }
-            }
+            } => match self.store.turn(disk, library, edit, &plan) {
+                Committed::Done(store) => Stepped::Next(Engine { store }, answer),
+                Committed::NoMemory(store) => Stepped::NoMemory(Engine { store }),
+                Committed::Failed => Stepped::Broken,
+            },
         }
     }
 

@@ -37,7 +37,8 @@ use Rattle.vbm_registry.proofs.Again.{read_again}
 use Rattle.vbm_registry.proofs.Stores.{SameFiles, SameBesides, same_media, header_frame, own_of_file, header_of_file, store_put, library_put}
 use Rattle.vbm_registry.proofs.Worlds.{is_medium_with, drawn_foreign, drawn_known, foreign_new, on_shelf, medium_of_file, with_shelved_none, world_put}
 use Rattle.vbm_store.specs.declared.store.Store.{Store}
-use Rattle.vbm_store.specs.declared.store.Image.{Image}
+use Rattle.vbm_store.specs.declared.images.Edit.{Edit}
+use Rattle.vbm_store.specs.Edits.{edited}
 use Rattle.vbm_store.specs.declared.store.Decided.{Decided}
 use Rattle.vbm_store.specs.declared.store.Decided.TheVariants as decided
 use Rattle.vbm_store.specs.Plans.{library_changes, image_changes}
@@ -236,12 +237,12 @@ module _ (files : Files) (e : Store) (name : Name) (size : Size) (h : Header) (s
       absurd cc)) ∙ gone)
 
 -- the same, of what the code decides
-turned : (files : Files) (e : Store) (name : Name) (size : Size) (library : Library) (images : List Image) (plan : List Change) (a : Answer)
+turned : (files : Files) (e : Store) (name : Name) (size : Size) (library : Library) (edit : Edit) (plan : List Change) (a : Answer)
     → IsSoundStore e → Holds e.library e.images files → IsTrue (is_medium_name name) → CanCreate e.library name (capacity_of size)
     → files name ≡ None → first_refusal (create_checks (serves e files) name (capacity_of size)) ≡ None
-    → MakesMedium e name (capacity_of size) library images plan a → (log : Log)
-    → Manages files e (CreateMedium name size Standard) plan (record { library = library; images = images; log = log }) a
-turned files e name size library images plan a sound holds named can absent none makes log =
+    → MakesMedium e name (capacity_of size) library edit plan a → (log : Log)
+    → Manages files e (CreateMedium name size Standard) plan (record { library = library; images = edited edit e.images; log = log }) a
+turned files e name size library edit plan a sound holds named can absent none makes log =
     let changes : plan ≡ image_changes name makes.header ++ library_changes (made_library e.library name) =
     makes.changes ∙ ap (λ l. image_changes name makes.header ++ library_changes l) makes.made in
     let t = created files e name size makes.header sound holds named can absent makes.medium none log in
@@ -252,15 +253,15 @@ pub decided_turn : (files : Files) (e : Store) (name : Name) (size : Size) (d : 
     → files name ≡ None → first_refusal (create_checks (serves e files) name (capacity_of size)) ≡ None
     → Creates e name (capacity_of size) d → Decides files e (CreateMedium name size Standard) d
 decided_turn files e name size (decided.Stay a) sound holds named can absent none creates = absurd creates
-decided_turn files e name size (decided.Turn library images p a) sound holds named can absent none creates =
-    turned files e name size library images p.changes a sound holds named can absent none creates
+decided_turn files e name size (decided.Turn library edit p a) sound holds named can absent none creates =
+    turned files e name size library edit p.changes a sound holds named can absent none creates
 decided_turn files e name size decided.NoMemory sound holds named can absent none creates = absurd creates
 decided_turn files e name size decided.Failed sound holds named can absent none creates = absurd creates
 
 pub decided_sound : (e : Store) (name : Name) (capacity : ℕ) (d : Decided) → IsSoundStore e → IsTrue (is_medium_name name) → CanCreate e.library name capacity
-    → Creates e name capacity d → DecidesSound d
+    → Creates e name capacity d → DecidesSound e d
 decided_sound e name capacity (decided.Stay a) sound named can creates = absurd creates
-decided_sound e name capacity (decided.Turn library images p a) sound named can creates =
+decided_sound e name capacity (decided.Turn library edit p a) sound named can creates =
     rw (creates.made, creates.placed)
     (made_is_library e.library name capacity sound.library named can, made_is_quiet e.library name sound.quiet, made_images e name creates.header sound)
 decided_sound e name capacity decided.NoMemory sound named can creates = absurd creates

@@ -13,18 +13,18 @@ use Rattle.vbm_world.specs.declared.command.Answer.TheVariants.{Id}
 use Rattle.vbm_world.specs.declared.command.Refusal.{Refusal}
 use Rattle.vbm_world.specs.declared.command.Refusal.TheVariants.{NameTaken, FileExists, BadSize, Full, IdsSpent}
 use Rattle.vbm_world.specs.declared.command.Which.TheVariants.{Media}
-use Rattle.vbm_named.specs.Names.{Name, has_name, put_by}
+use Rattle.vbm_named.specs.Names.{Name, has_name}
 use Rattle.vbm_world.specs.declared.refusals.TheConstants.{MEDIA_LIMIT}
 use Rattle.vbm_world.specs.Refusals.{first_refusal, is_bad_size}
 use Rattle.vbm_registry.specs.declared.media.Medium.{Medium}
 use Rattle.vbm_registry.specs.declared.library.Library.{Library}
 use Rattle.vbm_registry.specs.Library.{medium_entry_name, with_entry}
 use Rattle.vbm_store.specs.declared.store.Store.{Store}
-use Rattle.vbm_store.specs.declared.store.Image.{Image}
+use Rattle.vbm_store.specs.declared.images.Edit.{Edit}
+use Rattle.vbm_store.specs.declared.images.Edit.TheVariants.{Put}
 use Rattle.vbm_store.specs.declared.store.Decided.{Decided}
 use Rattle.vbm_store.specs.declared.store.Decided.TheVariants as decided
 use Rattle.vbm_store.specs.Plans.{library_changes, image_changes}
-use Rattle.vbm_store.specs.Serves.{image_name}
 
 -- the refusal, by whether each of the conditions holds
 abbrev pub first_check : Bool → Bool → Bool → Bool → Bool → Option Refusal
@@ -55,16 +55,16 @@ pub record IsNewMedium (l : Library) (capacity : ℕ) (h : Header) : Type 0 wher
   pub modify : h.modify ≡ identifier_of l.seed kinds.Modify l.next
 
 -- what is decided where the medium is made
-pub record MakesMedium (e : Store) (name : Name) (capacity : ℕ) (library : Library) (images : List Image) (plan : List Change) (a : Answer) : Type 0 where
+pub record MakesMedium (e : Store) (name : Name) (capacity : ℕ) (library : Library) (edit : Edit) (plan : List Change) (a : Answer) : Type 0 where
   pub header : Header
   pub medium : IsNewMedium e.library capacity header
   pub made : library ≡ library_made e.library name
-  pub placed : images ≡ put_by image_name (record { name = name; header = header }) e.images
+  pub placed : edit ≡ Put (record { name = name; header = header })
   pub changes : plan ≡ image_changes name header ++ library_changes library
   pub answer : a ≡ Id header.id
 
 abbrev pub Creates : Store → Name → ℕ → Decided → Type 0
 Creates e name capacity (decided.Stay a) = ⊥
-Creates e name capacity (decided.Turn library images plan a) = MakesMedium e name capacity library images plan.changes a
+Creates e name capacity (decided.Turn library edit plan a) = MakesMedium e name capacity library edit plan.changes a
 Creates e name capacity decided.NoMemory = ⊥
 Creates e name capacity decided.Failed = ⊥

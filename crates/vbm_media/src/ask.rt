@@ -47,7 +47,7 @@ fn info(medium: &Medium, image: &Image) -> Answer
 pub fn decide_show(store: &Store, name: &[u8]) -> Decided
     ensures decides { (files : Files) → Holds store.now.library store.now.images files
         → Decides files store.now (ShowMediumInfo name.now) result }
-    ensures sound { DecidesSound result }
+    ensures sound { DecidesSound store.now result }
     ensures no_fault { deciding_failed result ≡ false }
 {
     let Some(medium) = store.library.media.find(name) else {
@@ -72,7 +72,7 @@ fn media_names(alloc: Global, media: &Media) -> Result<Names, NoMemory>
 /// Decides `list hdds`.
 pub fn decide_list(alloc: Global, store: &Store) -> Decided
     ensures decides { (files : Files) → Decides files store.now ListHdds result }
-    ensures sound { DecidesSound result }
+    ensures sound { DecidesSound store.now result }
     ensures no_fault { deciding_failed result ≡ false }
 {
     match media_names(alloc, &store.library.media) {

@@ -4,19 +4,18 @@ ghost use Rattle.std.specs.Prelude.{◌≡◌, ◌++◌, IfOk, IsTrue, false};
 ghost use Rattle.vbm_ports.specs.Files.{Files};
 ghost use Rattle.vbm_ports.specs.Names.{is_medium_name};
 ghost use Rattle.vbm_registry.specs.Library.{medium_entry_name, without_entry, IsLibrary, IsQuiet};
-ghost use Rattle.vbm_named.specs.Names.{has_name, without};
+ghost use Rattle.vbm_named.specs.Names.{has_name};
 ghost use Rattle.vbm_world.specs.declared.command.Command.TheVariants.{CloseMedium};
 ghost use Rattle.vbm_media.specs.Closes.{removal};
 ghost use Rattle.vbm_store.specs.Plans.{library_changes};
-ghost use Rattle.vbm_store.specs.Serves.{image_name, IsSoundStore, Holds};
+ghost use Rattle.vbm_store.specs.Serves.{IsSoundStore, Holds};
 ghost use Rattle.vbm_store.specs.Steps.{Decides, DecidesSound, deciding_failed};
 
 use std::alloc::Global;
 use vbm_intent::{Change, Plan};
-use vbm_named::names::without;
 use vbm_ports::{NoMemory, Text};
 use vbm_registry::Library;
-use vbm_store::{Decided, Images, Store, plan_library};
+use vbm_store::{Decided, Edit, Store, plan_library};
 use vbm_world::{Answer, Refusal};
 
 // Removes the file of a name, where it is asked for.
@@ -48,25 +47,24 @@ fn plan_closing(
     Ok(plan)
 }
 
-// The library and the images without the medium, and the plan.
+// The library without the medium, its name, and the plan.
 fn close_entry(
     alloc: Global,
     store: &Store,
     name: &[u8],
     delete: bool,
-) -> Result<(Library, Images, Plan), NoMemory>
+) -> Result<(Library, Text, Plan), NoMemory>
     requires library { IsLibrary store.now.library }
     requires quiet { IsQuiet store.now.library }
     requires name { IsTrue (is_medium_name name.now) }
     ensures library { IfOk result (λ x. x.0 ≡ without_entry store.now.library name.now) }
-    ensures images { IfOk result (λ x. x.1 ≡ without image_name name.now store.now.images) }
+    ensures name { IfOk result (λ x. x.1 ≡ name.now) }
     ensures plan { IfOk result (λ x. x.2.changes
         ≡ removal name.now delete ++ library_changes (without_entry store.now.library name.now)) }
 {
     let library = store.library.without_medium(alloc, name)?;
-    let images = without(alloc, store.images.as_slice(), name)?;
     let plan = plan_closing(alloc, &library, name, delete)?;
-    Ok((library, images, plan))
+    Ok((library, Text::new(alloc, name)?, plan))
 }
 
 // Closes a medium that there is. No machine has it yet.
@@ -76,13 +74,13 @@ fn close_found(alloc: Global, store: &Store, name: &[u8], delete: bool) -> Decid
     requires found { IsTrue (has_name medium_entry_name name.now store.now.library.media) }
     ensures decides { (files : Files) → Holds store.now.library store.now.images files
         → Decides files store.now (CloseMedium name.now delete) result }
-    ensures sound { DecidesSound result }
+    ensures sound { DecidesSound store.now result }
     ensures no_fault { deciding_failed result ≡ false }
 {
     match close_entry(alloc, store, name, delete) {
-        Ok((library, images, plan)) => Decided::Turn {
+        Ok((library, name, plan)) => Decided::Turn {
             library,
-            images,
+            edit: Edit::Remove(name),
             plan,
             answer: Answer::Done,
         },
@@ -96,7 +94,7 @@ pub fn decide_close(alloc: Global, store: &Store, name: &[u8], delete: bool) -> 
     requires name { IsTrue (is_medium_name name.now) }
     ensures decides { (files : Files) → Holds store.now.library store.now.images files
         → Decides files store.now (CloseMedium name.now delete) result }
-    ensures sound { DecidesSound result }
+    ensures sound { DecidesSound store.now result }
     ensures no_fault { deciding_failed result ≡ false }
 {
     match store.library.media.find(name) {

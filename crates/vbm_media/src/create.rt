@@ -26,7 +26,7 @@ use vbm_intent::Plan;
 use vbm_modes::Mode;
 use vbm_ports::{Disk, Failed, NoMemory, Text};
 use vbm_registry::{Library, Medium};
-use vbm_store::{Decided, Image, Store, plan_create, plan_library, with_image};
+use vbm_store::{Decided, Edit, Image, Store, plan_create, plan_library};
 use vbm_volume::{Variant, new_header};
 use vbm_world::{Answer, MEDIA_LIMIT, Refusal, Size, Which, is_bad_size};
 
@@ -145,15 +145,14 @@ fn create(
 {
     let header = header_of(&store.library, capacity, variant);
     let library = with_new(alloc, &store.library, name)?;
+    let plan = plan_of(alloc, name, &header, &library)?;
     let image = Image {
         name: Text::new(alloc, name)?,
         header,
     };
-    let images = with_image(alloc, &store.images, image)?;
-    let plan = plan_of(alloc, name, &header, &library)?;
     Ok(Decided::Turn {
         library,
-        images,
+        edit: Edit::Put(image),
         plan,
         answer: Answer::Id(header.id),
     })
@@ -172,7 +171,7 @@ pub fn decide_create<D: Disk>(
     requires spelled { IsSpelled (commands.CreateMedium name.now size variant) }
     requires fits { D.tells → FitsDisk store.now (D.state disk.old) }
     ensures decides { D.tells → Decides (D.state disk.old).files store.now (commands.CreateMedium name.now size variant) result }
-    ensures sound { DecidesSound result }
+    ensures sound { DecidesSound store.now result }
     ensures reads { OnlyReads D.tells (D.state disk.old) (D.state disk.new) }
     ensures faults { IsCounted (deciding_failed result) (D.state disk.old).faults (D.state disk.new).faults }
 {

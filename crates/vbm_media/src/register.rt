@@ -8,14 +8,14 @@ ghost use Rattle.vbm_ports.specs.Disk.{OnlyReads};
 ghost use Rattle.vbm_ports.specs.Files.{Files};
 ghost use Rattle.vbm_ports.specs.Names.{is_medium_name};
 ghost use Rattle.vbm_registry.specs.Library.{medium_entry_name, with_entry, IsLibrary, IsQuiet};
-ghost use Rattle.vbm_named.specs.Names.{has_name, put_by};
+ghost use Rattle.vbm_named.specs.Names.{has_name};
 ghost use Rattle.vbm_world.specs.Refusals.{first_refusal};
 ghost use Rattle.vbm_world.specs.declared.command.Command.TheVariants.{OpenMedium};
 ghost use Rattle.vbm_store.specs.Images.{IsRead};
 ghost use Rattle.vbm_store.specs.Plans.{library_changes};
 ghost use Rattle.vbm_media.specs.Creates.{new_entry};
 ghost use Rattle.vbm_media.specs.Registers.{image_checks};
-ghost use Rattle.vbm_store.specs.Serves.{image_name, IsSoundStore, Holds, FitsDisk};
+ghost use Rattle.vbm_store.specs.Serves.{IsSoundStore, Holds, FitsDisk};
 ghost use Rattle.vbm_store.specs.Steps.{Decides, DecidesSound, deciding_failed};
 
 use std::alloc::Global;
@@ -26,7 +26,7 @@ use vbm_intent::Plan;
 use vbm_modes::Mode;
 use vbm_ports::{Disk, NoMemory, Text};
 use vbm_registry::{Library, Medium};
-use vbm_store::{Decided, Image, Images, OpenFault, Store, open_image, plan_library, with_image};
+use vbm_store::{Decided, Edit, Image, OpenFault, Store, open_image, plan_library};
 use vbm_world::{Answer, MEDIA_LIMIT, Refusal, Which};
 
 fn has_id(images: &[Image], id: Uuid) -> bool
@@ -85,25 +85,18 @@ fn library_plan(alloc: Global, library: &Library) -> Result<Plan, NoMemory>
     Ok(plan)
 }
 
-// The library and the images with the medium, and the plan.
-fn add_entry(
-    alloc: Global,
-    store: &Store,
-    image: Image,
-) -> Result<(Library, Images, Plan), NoMemory>
+// The library with the medium, and the plan.
+fn add_entry(alloc: Global, store: &Store, name: &[u8]) -> Result<(Library, Plan), NoMemory>
     requires sound { IsLibrary store.now.library }
     requires quiet { IsQuiet store.now.library }
-    requires free { IsFalse (has_name medium_entry_name image.name store.now.library.media) }
-    requires grown { IsLibrary (with_entry store.now.library (new_entry image.name)) }
-    ensures library { IfOk result (λ x. x.0 ≡ with_entry store.now.library (new_entry image.name)) }
-    ensures images { IfOk result (λ x. x.1 ≡ put_by image_name image store.now.images) }
-    ensures plan { IfOk result (λ x. x.2.changes
-        ≡ library_changes (with_entry store.now.library (new_entry image.name))) }
+    requires free { IsFalse (has_name medium_entry_name name.now store.now.library.media) }
+    requires grown { IsLibrary (with_entry store.now.library (new_entry name.now)) }
+    ensures library { IfOk result (λ x. x.0 ≡ with_entry store.now.library (new_entry name.now)) }
+    ensures plan { IfOk result (λ x. x.1.changes ≡ library_changes (with_entry store.now.library (new_entry name.now))) }
 {
-    let library = library_with(alloc, &store.library, image.name.bytes())?;
+    let library = library_with(alloc, &store.library, name)?;
     let plan = library_plan(alloc, &library)?;
-    let images = with_image(alloc, &store.images, image)?;
-    Ok((library, images, plan))
+    Ok((library, plan))
 }
 
 // Opens the medium of an image that is not refused.
@@ -114,14 +107,14 @@ fn add_image(alloc: Global, store: &Store, image: Image) -> Decided
     requires allowed { first_refusal (image_checks store.now.library store.now.images image.header) ≡ None }
     ensures decides { (files : Files) → Holds store.now.library store.now.images files
         → IsRead (files image.name) (Ok image.header) → Decides files store.now (OpenMedium image.name) result }
-    ensures sound { DecidesSound result }
+    ensures sound { DecidesSound store.now result }
     ensures no_fault { deciding_failed result ≡ false }
 {
     let id = id_of(&image);
-    match add_entry(alloc, store, image) {
-        Ok((library, images, plan)) => Decided::Turn {
+    match add_entry(alloc, store, image.name.bytes()) {
+        Ok((library, plan)) => Decided::Turn {
             library,
-            images,
+            edit: Edit::Put(image),
             plan,
             answer: Answer::Id(id),
         },
@@ -136,7 +129,7 @@ fn decide_image(alloc: Global, store: &Store, image: Image) -> Decided
     requires free { has_name medium_entry_name image.name store.now.library.media ≡ false }
     ensures decides { (files : Files) → Holds store.now.library store.now.images files
         → IsRead (files image.name) (Ok image.header) → Decides files store.now (OpenMedium image.name) result }
-    ensures sound { DecidesSound result }
+    ensures sound { DecidesSound store.now result }
     ensures no_fault { deciding_failed result ≡ false }
 {
     match image_refusal(store, &image.header) {
@@ -152,7 +145,7 @@ fn decide_file<D: Disk>(alloc: Global, store: &Store, disk: &mut D, name: &[u8])
     requires fits { D.tells → FitsDisk store.now (D.state disk.old) }
     requires free { has_name medium_entry_name name.now store.now.library.media ≡ false }
     ensures decides { D.tells → Decides (D.state disk.old).files store.now (OpenMedium name.now) result }
-    ensures sound { DecidesSound result }
+    ensures sound { DecidesSound store.now result }
     ensures reads { OnlyReads D.tells (D.state disk.old) (D.state disk.new) }
     ensures faults { IsCounted (deciding_failed result) (D.state disk.old).faults (D.state disk.new).faults }
 {
@@ -173,7 +166,7 @@ pub fn decide_open<D: Disk>(alloc: Global, store: &Store, disk: &mut D, name: &[
     requires name { IsTrue (is_medium_name name.now) }
     requires fits { D.tells → FitsDisk store.now (D.state disk.old) }
     ensures decides { D.tells → Decides (D.state disk.old).files store.now (OpenMedium name.now) result }
-    ensures sound { DecidesSound result }
+    ensures sound { DecidesSound store.now result }
     ensures reads { OnlyReads D.tells (D.state disk.old) (D.state disk.new) }
     ensures faults { IsCounted (deciding_failed result) (D.state disk.old).faults (D.state disk.new).faults }
 {

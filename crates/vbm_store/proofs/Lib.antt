@@ -4,3 +4,4 @@ pub mod Pushing
 pub mod Readiness
 pub mod Keeping
 pub mod Turning
+mod Edits

@@ -18,7 +18,13 @@ use Rattle.vbm_world.proofs.Worlds.{loosely_weaker}
 use Rattle.vbm_registry.specs.Stands.{none_changed}
 use Rattle.vbm_registry.proofs.Stores.{world_frame}
 use Rattle.vbm_store.specs.declared.store.Store.{Store}
+use Rattle.vbm_intent.specs.declared.log.Log.{Log}
+use Rattle.vbm_registry.specs.declared.library.Library.{Library}
+use Rattle.vbm_store.specs.declared.images.Edit.{Edit}
 use Rattle.vbm_store.specs.declared.store.Decided.TheVariants as decided
+use Rattle.vbm_store.specs.declared.store.Committed.TheVariants.{Done}
+use Rattle.vbm_store.specs.Edits.{edited}
+use Rattle.vbm_store.specs.Commits.{HandsBack}
 use Rattle.vbm_store.specs.Keeps.{Keeps, AllKeep, kind_of}
 use Rattle.vbm_store.specs.Kept.{AreKept}
 use Rattle.vbm_store.specs.Serves.{rests, serves, IsSoundStore, Holds, FitsDisk, touched, IsReady, StandsLoosely, both}
@@ -175,3 +181,11 @@ module _ {tells : Type 0} {e : Store} {c : Command} {plan : List Change} {next :
           strays = λ name inner unlisted none. same name (inner_not_log name inner) ∙ owes.strays name inner unlisted none;
         };
       }
+
+-- the store that a commit gives back is the next one of the command
+pub turned_by : {files : Files} {e : Store} {c : Command} {plan : List Change} {a : Answer} (library : Library) (edit : Edit) (next : Store)
+    → HandsBack e library edit (Done next)
+    → ((log : Log) → Manages files e c plan (record { library = library; images = edited edit e.images; log = log }) a)
+    → Manages files e c plan next a
+turned_by {files = files} {e = e} {c = c} {plan = plan} {a = a} library edit next store owes =
+    subst (λ n. Manages files e c plan n a) (λ i. record { library = sym store.0 i; images = sym store.1 i; log = next.log }) (owes next.log)

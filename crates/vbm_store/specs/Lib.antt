@@ -3,6 +3,8 @@ pub mod Listed
 pub mod Keeps
 pub mod Kept
 pub mod Serves
+pub mod Edits
+pub mod Commits
 pub mod Turns
 pub mod Steps
 pub mod Plans

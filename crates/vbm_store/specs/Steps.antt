@@ -20,6 +20,7 @@ use Rattle.vbm_store.specs.declared.store.Decided.TheVariants as decided
 use Rattle.vbm_store.specs.Listed.{is_inner_of}
 use Rattle.vbm_store.specs.Kept.{AreKept}
 use Rattle.vbm_store.specs.Serves.{serves, image_name, FitsDisk, IsReady}
+use Rattle.vbm_store.specs.Edits.{edited}
 use Rattle.vbm_store.specs.Turns.{Turns}
 
 -- no file with an inner image's name came that the library does not list
@@ -63,21 +64,22 @@ pub record Manages (files : Files) (e : Store) (c : Command) (plan : List Change
 abbrev pub Decides : Files → Store → Command → Decided → Type 0
 Decides files e c (decided.Stay a) =
     ((a, serves e files) ≡ step_of (serves e files) c 0) × ((u : Unsettled) → unsettled_after u (serves e files) c ≡ u)
-Decides files e c (decided.Turn library images plan a) =
-    (log : Log) → Manages files e c plan.changes (record { library = library; images = images; log = log }) a
+Decides files e c (decided.Turn library edit plan a) =
+    (log : Log) → Manages files e c plan.changes (record { library = library; images = edited edit e.images; log = log }) a
 Decides files e c decided.NoMemory = Unit {0}
 Decides files e c decided.Failed = Unit {0}
 
 -- what holds of a decision over any disk
-abbrev pub DecidesSound : Decided → Type 0
-DecidesSound (decided.Stay a) = Unit {0}
-DecidesSound (decided.Turn library images plan a) = IsLibrary library × IsQuiet library × (map image_name images ≡ map medium_entry_name library.media)
-DecidesSound decided.NoMemory = Unit {0}
-DecidesSound decided.Failed = Unit {0}
+abbrev pub DecidesSound : Store → Decided → Type 0
+DecidesSound e (decided.Stay a) = Unit {0}
+DecidesSound e (decided.Turn library edit plan a) =
+    IsLibrary library × IsQuiet library × (map image_name (edited edit e.images) ≡ map medium_entry_name library.media)
+DecidesSound e decided.NoMemory = Unit {0}
+DecidesSound e decided.Failed = Unit {0}
 
 -- the disk failed while it was decided
 abbrev pub deciding_failed : Decided → Bool
 deciding_failed (decided.Stay a) = false
-deciding_failed (decided.Turn library images plan a) = false
+deciding_failed (decided.Turn library edit plan a) = false
 deciding_failed decided.NoMemory = false
 deciding_failed decided.Failed = true

@@ -8,7 +8,7 @@ mod store;
 mod undone;
 
 pub use image::{OpenFault, open_image};
-pub use images::with_image;
+pub use images::{Edit, Images};
 pub use plans::{LIBRARY_NAME, plan_create, plan_library};
-pub use store::{Decided, Image, Images, Store};
+pub use store::{Committed, Decided, Image, Store};
 pub use undone::Undone;

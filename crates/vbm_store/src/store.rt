@@ -1,8 +1,17 @@
 //! Stores that are open.
 
+ghost use Rattle.std.specs.Prelude.{OnOk, is_err};
+ghost use Rattle.vbm_ports.specs.Counts.{IsCounted};
+ghost use Rattle.vbm_ports.specs.Crash.{Only};
+ghost use Rattle.vbm_ports.specs.Disk.{Passes, OnlyReads};
+ghost use Rattle.vbm_intent.specs.Changes.{changed, Fits};
+ghost use Rattle.vbm_intent.specs.Log.{IsShutInAll, SameBesidesLog, IsBeforeOrAfter};
+ghost use Rattle.vbm_store.specs.Commits.{HandsBack, Commits, OnNoMemory, commit_failed};
+
+use crate::images::{Edit, Images, apply, reserve};
 use vbm_header::Header;
 use vbm_intent::{Log, Plan};
-use vbm_ports::{Sequence, Text};
+use vbm_ports::{Disk, Failed, Text};
 use vbm_registry::Library;
 use vbm_world::Answer;
 
@@ -12,9 +21,6 @@ pub struct Image {
     pub name: Text,
     pub header: Header,
 }
-
-/// Images, those of the media first, in their order.
-pub type Images = Sequence<Image>;
 
 /// A store that is open.
 #[derive(Drop)]
@@ -29,10 +35,10 @@ pub struct Store {
 pub enum Decided {
     /// The answer leaves the store as it is.
     Stay(Answer),
-    /// The plan is committed; then the library and the images are these, and the answer is given.
+    /// The plan, which may be empty, is committed; then the library is this one, the images are edited, and the answer is given.
     Turn {
         library: Library,
-        images: Images,
+        edit: Edit,
         plan: Plan,
         answer: Answer,
     },
@@ -40,4 +46,73 @@ pub enum Decided {
     NoMemory,
     /// The disk failed.
     Failed,
+}
+
+/// How a commit ended.
+#[derive(Drop)]
+pub enum Committed {
+    /// The store behind it.
+    Done(Store),
+    /// The store as it was: there was no memory.
+    NoMemory(Store),
+    /// The disk failed. The store has to be opened again.
+    Failed,
+}
+
+impl Store {
+    /// Commits a plan, and then holds this library, and its images as they are edited. All memory that this takes is taken before the
+    /// commit. Where the plan is empty, the disk is settled.
+    pub fn turn<D: Disk>(self, disk: &mut D, library: Library, edit: Edit, plan: &Plan) -> Committed
+        requires shut { D.tells → IsShutInAll (D.state disk.old).may_leave }
+        requires fits { D.tells → Fits plan.now.changes (D.state disk.old).files }
+        ensures store { HandsBack self library edit result }
+        ensures commits { D.tells → Commits (D.state disk.old) (D.state disk.new) plan.now.changes result }
+        ensures reads { OnNoMemory result (OnlyReads D.tells (D.state disk.old) (D.state disk.new)) }
+        ensures any_moment { D.tells → Passes (D.state disk.old) (D.state disk.new)
+            (IsBeforeOrAfter plan.now.changes (D.state disk.old).files (D.state disk.old).may_leave) }
+        ensures faults { IsCounted (commit_failed result) (D.state disk.old).faults (D.state disk.new).faults }
+    {
+        let Store {
+            library: held,
+            images,
+            mut log,
+        } = self;
+        let mut items = images.into_vec();
+        if reserve(&mut items, &edit).is_err() {
+            return Committed::NoMemory(Store {
+                library: held,
+                images: Images::from_vec(items),
+                log,
+            });
+        }
+        match commit_plan(disk, &mut log, plan) {
+            Ok(()) => {
+                apply(&mut items, edit);
+                Committed::Done(Store {
+                    library,
+                    images: Images::from_vec(items),
+                    log,
+                })
+            }
+            Err(Failed) => Committed::Failed,
+        }
+    }
+}
+
+// Commits a plan, or settles the disk where it is empty.
+fn commit_plan<D: Disk>(disk: &mut D, log: &mut Log, plan: &Plan) -> Result<(), Failed>
+    requires shut { D.tells → IsShutInAll (D.state disk.old).may_leave }
+    requires fits { D.tells → Fits plan.now.changes (D.state disk.old).files }
+    ensures ok { D.tells
+        → OnOk result (SameBesidesLog (D.state disk.new).files (changed plan.now.changes (D.state disk.old).files)) }
+    ensures settled { D.tells → OnOk result (Only (D.state disk.new).files (D.state disk.new).may_leave) }
+    ensures shut { D.tells → OnOk result (IsShutInAll (D.state disk.new).may_leave) }
+    ensures any_moment { D.tells → Passes (D.state disk.old) (D.state disk.new)
+        (IsBeforeOrAfter plan.now.changes (D.state disk.old).files (D.state disk.old).may_leave) }
+    ensures faults { IsCounted (is_err result) (D.state disk.old).faults (D.state disk.new).faults }
+{
+    if plan.size() == 0 {
+        return disk.sync();
+    }
+    log.commit(disk, plan)
 }
