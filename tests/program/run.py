@@ -9,6 +9,7 @@ import struct
 import subprocess
 import sys
 import tempfile
+import time
 
 ROOT = os.path.dirname(os.path.dirname(os.path.dirname(os.path.abspath(__file__))))
 MIB = 1 << 20
@@ -256,7 +257,79 @@ def refused_stores(cases):
     s.holds("it is redone", os.path.getsize(s.path("a.vdi")) == 10 and open(s.path("intent.vbm"), "rb").read(1) != b"\xa5")
 
 
+def log(changes):
+    """A log that waits, with a record of these changes."""
+    body = b"".join(changes)
+    return b"\xa5" + bytes(7) + struct.pack("<2I", len(body), len(changes)) + body
+
+
+def named(kind, name):
+    return bytes([kind, len(name)]) + name
+
+
+def written(name, at, data):
+    return named(1, name) + struct.pack("<QI", at, len(data)) + data
+
+
+# No record has more bytes, or more changes.
+BODY, CHANGES = 1 << 25, 1 << 16
+
+# A record is judged in less, in seconds, even on a busy machine.
+LONGEST = 20
+
+
+def long_records(cases):
+    """Logs near their limits. Where a record has as many changes as there may be, the last of them is bad."""
+    places = [(i * 40503) % CHANGES for i in range(1, CHANGES)]
+    bad = written(b"b.vdi", 1, b"1")
+    done, refused = (0, b"ok 0\n"), (7, b"store 2 BadLog\n")
+    room = BODY - len(written(b"a.vdi", 0, b""))
+    for name, changes, before, wanted, after in [
+        ("the longest body", [written(b"a.vdi", 0, b"\7" * room)], b"", done, b"\7" * room),
+        ("a body that is too long", [written(b"a.vdi", 0, b"\7" * (room + 1))], b"", refused, b""),
+        ("the most changes", [written(b"a.vdi", i, b"1") for i in range(CHANGES)], b"", done, b"1" * CHANGES),
+        ("too many changes", [written(b"a.vdi", i, b"1") for i in range(CHANGES + 1)], b"", refused, b""),
+        ("many changes of one file", [written(b"a.vdi", i, b"1") for i in places] + [bad], b"\7" * CHANGES, refused, b"\7" * CHANGES),
+        ("long changes of one file", [written(b"a.vdi", 480 * i, b"\1" * 480) for i in places] + [bad], b"\7" * (480 * CHANGES), refused, b"\7" * (480 * CHANGES)),
+        ("many files", [named(4, b"%08d.vdi" % i) for i in places] + [bad], b"x", refused, b"x"),
+    ]:
+        s = Store(cases, name, [("library.vbm", library()), ("a.vdi", before), ("intent.vbm", log(changes))])
+        start = time.monotonic()
+        s.does("list hdds", *wanted)
+        s.holds("in time", time.monotonic() - start < LONGEST)
+        s.holds("the file", open(s.path("a.vdi"), "rb").read() == after)
+
+
 BAD = b"error 01 BadLine\n"
+PARTS = [b"\n", b"\r", b" ", b"\t", b"#", b"list hdds", b"list", b"\r\n", b"showmediuminfo a.vdi\n", b"x"]
+
+
+def random_script(seed):
+    x, parts = seed, []
+    for _ in range(40):
+        x = (x * 6364136223846793005 + 1442695040888963407) % (1 << 64)
+        parts.append(PARTS[(x >> 33) % len(PARTS)])
+    return b"".join(parts)
+
+
+def answers_to(script, info):
+    """What docs/MACHINE.md says of these parts of lines."""
+    lines = script.split(b"\n")
+    ended = [line[:-1] if line.endswith(b"\r") else line for line in lines[:-1]]
+    commands = [line.replace(b"\t", b" ").split(b" ") for line in ended + [lines[-1]]]
+    commands = [[word for word in words if word] for words in commands]
+    known = {(b"list", b"hdds"): b"ok 1 a.vdi\n", (b"showmediuminfo", b"a.vdi"): info}
+    return b"".join(known.get(tuple(words), BAD) for words in commands if words and not words[0].startswith(b"#"))
+
+
+def random_scripts(cases):
+    s = Store(cases, "random scripts", [("library.vbm", library())])
+    s.does("createmedium a.vdi --size 1", 0, b"ok " + A_ID + b"\n")
+    info = b"ok " + A_ID + b" " + A_MODIFY + b" normal Standard 1048576 free\n"
+    for seed in range(60):
+        script = random_script(seed)
+        wanted = answers_to(script, info)
+        s.runs("seed %d" % seed, script, 1 if BAD in wanted else 0, wanted)
 
 
 def scripts(cases):
@@ -306,7 +379,7 @@ class Answers:
 
 def main():
     cases = Cases(os.path.abspath(sys.argv[1]))
-    for part in (sectors, refusals, words, folders, outputs, media, foreign_files, refused_stores, scripts):
+    for part in (sectors, refusals, words, folders, outputs, media, foreign_files, refused_stores, long_records, scripts, random_scripts):
         part(cases)
     print("program: %d passed, %d failed" % (cases.passed, cases.failed))
     return 1 if cases.failed else 0

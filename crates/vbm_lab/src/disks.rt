@@ -1,15 +1,13 @@
 //! Disks in memory: their files, copies, and what a crash leaves.
 
 use crate::ended::Ended;
-use crate::runs::{run_play, run_words};
-use crate::scenario::{Play, Scenario};
+use crate::pieces::{LONGEST, put_pieces};
+use crate::runs::{PLAIN, run_play, run_words};
+use crate::scenario::Scenario;
 use std::alloc::Global;
 use vbm_memdisk::{MemDisk, Pick};
 use vbm_ports::{Disk, names_store_file};
 use vbm_top::status;
-
-/// The longest file that a scenario may make is of twice as many bytes.
-const LONGEST: usize = 1 << 26;
 
 /// The first byte of a log that waits for redo.
 const OPEN_GATE: u8 = 0xa5;
@@ -33,31 +31,34 @@ pub(crate) fn has_same_files(disk: &MemDisk, other: &MemDisk) -> Result<bool, En
     Ok(true)
 }
 
-/// Puts bytes at a place of a file, with zeros in a gap before them.
-pub(crate) fn put_piece(
+/// Puts the pieces of a text over a file, which is made if it is absent.
+pub(crate) fn put_file(
     alloc: Global,
     disk: &mut MemDisk,
     name: &[u8],
-    at: u64,
-    bytes: &[u8],
+    pieces: &str,
 ) -> Result<(), Ended> {
     let mut file = Vec::from_slice(alloc, disk.file(name).unwrap_or(b""))?;
-    if at > LONGEST as u64 || bytes.len() > LONGEST || file.len() > 2 * LONGEST {
+    put_pieces(alloc, &mut file, pieces)?;
+    if file.len() > 2 * LONGEST {
         return Err(Ended::Here("a file is too long"));
     }
-    let at = at as usize;
-    let end = at + bytes.len();
-    if file.len() < end {
-        file.resize(end, 0)?;
-    }
-    file[at..end].copy_from_slice(bytes);
     disk.put_file(name, file.as_slice())?;
+    Ok(())
+}
+
+/// Removes a file of a store, if it is there.
+pub(crate) fn remove_file(disk: &mut MemDisk, name: &[u8]) -> Result<(), Ended> {
+    if !names_store_file(name) || disk.remove(name).is_err() {
+        return Err(Ended::Here("no file of a store"));
+    }
+    *disk = copy(disk)?;
     Ok(())
 }
 
 /// Runs words, whose answer has to be no refusal, and settles all.
 pub(crate) fn run_well(alloc: Global, disk: &mut MemDisk, line: &str) -> Result<(), Ended> {
-    let outcome = run_words(alloc, disk, line)?;
+    let outcome = run_words(alloc, disk, line.as_bytes(), PLAIN)?;
     if outcome.status != status::DONE {
         return Err(Ended::Here("refused"));
     }
@@ -73,7 +74,7 @@ pub(crate) fn waiting(
     line: &str,
 ) -> Result<MemDisk, Ended> {
     let mut whole = copy(disk)?;
-    run_words(alloc, &mut whole, line)?;
+    run_words(alloc, &mut whole, line.as_bytes(), PLAIN)?;
     let calls = whole.calls();
     for i in 0..calls {
         let image = stopped_image(alloc, disk, pick, line, calls - 1 - i)?;
@@ -93,7 +94,7 @@ fn stopped_image(
 ) -> Result<MemDisk, Ended> {
     let mut stopped = copy(disk)?;
     stopped.stop_at(call);
-    run_words(alloc, &mut stopped, line)?;
+    run_words(alloc, &mut stopped, line.as_bytes(), PLAIN)?;
     Ok(stopped.images_of_last_sync(pick)?)
 }
 
@@ -106,10 +107,10 @@ fn waits(disk: &MemDisk) -> bool {
 
 /// The disk that a scenario begins with.
 pub(crate) fn begin(scenario: &Scenario) -> Result<MemDisk, Ended> {
-    let mut disk = copy(&scenario.start)?;
+    let mut disk = copy(&scenario.all.start)?;
     for file in &scenario.unsettled {
         if !is_written(&mut disk, file.name.as_bytes(), file.bytes.as_slice()) {
-            return Err(Ended::At(scenario.line, "an unsettled file is not written"));
+            return Err(Ended::At(scenario.all.line, "an unsettled file is not written"));
         }
     }
     Ok(disk)
@@ -123,14 +124,27 @@ fn is_written(disk: &mut MemDisk, name: &[u8], bytes: &[u8]) -> bool {
     disk.write(name, 0, bytes).is_ok()
 }
 
-/// What asking lines find: what they write, and then a line with the status and with the files whose names end as those of images.
-pub(crate) fn ask(alloc: Global, disk: &mut MemDisk, asking: &Play) -> Result<Vec<u8>, Ended> {
-    let outcome = run_play(alloc, disk, asking)?;
+/// What asking lines find: what they write, and then a line with the status, the files whose names end as those of images, and a
+/// mark for each thing that is said of files, whether it holds.
+pub(crate) fn ask(
+    alloc: Global,
+    disk: &mut MemDisk,
+    scenario: &Scenario,
+) -> Result<Vec<u8>, Ended> {
+    let outcome = run_play(alloc, disk, &scenario.asking)?;
     let mut found = outcome.text(alloc)?;
     found.extend_from_slice(b", files")?;
     for name in &image_names(alloc, disk)? {
         found.push(b' ')?;
         found.extend_from_slice(name.as_slice())?;
+    }
+    for check in &scenario.all.checks {
+        let mark = if check.holds(alloc, &scenario.all.start, disk)? {
+            b"; holds"
+        } else {
+            b"; fails"
+        };
+        found.extend_from_slice(mark)?;
     }
     Ok(found)
 }

@@ -18,6 +18,16 @@ pub(crate) enum Ended {
     Output,
 }
 
+impl Ended {
+    /// The same, with the number of the line that is wrong.
+    pub(crate) fn at(self, line: usize) -> Ended {
+        match self {
+            Ended::Here(what) => Ended::At(line, what),
+            ended => ended,
+        }
+    }
+}
+
 impl From<AllocError> for Ended {
     fn from(_none: AllocError) -> Ended {
         Ended::Memory

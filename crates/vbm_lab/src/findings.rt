@@ -21,6 +21,8 @@ pub(crate) struct Place {
 #[derive(Drop)]
 pub(crate) struct Findings {
     alloc: Global,
+    /// Cases that were run.
+    pub(crate) runs: u64,
     pub(crate) images: u64,
     pub(crate) before: u64,
     pub(crate) after: u64,
@@ -34,6 +36,7 @@ impl Findings {
     pub(crate) fn new(alloc: Global) -> Findings {
         Findings {
             alloc,
+            runs: 0,
             images: 0,
             before: 0,
             after: 0,
@@ -52,13 +55,17 @@ impl Findings {
         }
     }
 
-    /// Counts a violation, and tells it while there are few.
+    /// Counts a violation at a call.
     pub(crate) fn add(&mut self, place: Place, wanted: &[u8], got: &[u8]) -> Result<(), Ended> {
+        self.tell(place_text(self.alloc, place)?, wanted, got)
+    }
+
+    /// Counts a violation, and tells it while there are few.
+    pub(crate) fn tell(&mut self, place: String, wanted: &[u8], got: &[u8]) -> Result<(), Ended> {
         self.violations = self.violations.saturating_add(1);
         if self.told.len() >= MOST_TOLD {
             return Ok(());
         }
-        let place = place_text(self.alloc, place)?;
         let wanted = String::from_utf8_lossy(self.alloc, wanted)?;
         let got = String::from_utf8_lossy(self.alloc, got)?;
         self.told.push(format!(in self.alloc; "{place}: wanted {wanted:?}, got {got:?}")?)?;

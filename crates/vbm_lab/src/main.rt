@@ -3,15 +3,18 @@
 //! The text of scenarios is in docs/LAB.md.
 #![tactic(auto)]
 
+mod answers;
 mod disks;
 mod ended;
 mod findings;
+mod pieces;
 mod reading;
 mod right;
 mod runs;
 mod scenario;
 mod trying;
 
+use crate::answers::try_cases;
 use crate::ended::Ended;
 use crate::findings::Findings;
 use crate::reading::read_scenarios;
@@ -54,6 +57,20 @@ fn try_all(rt: &(impl Print + Input + AllocGlobal)) -> Result<bool, Ended> {
 
 // Tries a scenario, and gives whether it ended as it has to.
 fn try_scenario(rt: &impl Print, alloc: Global, scenario: &Scenario) -> Result<bool, Ended> {
+    let are_answered = scenario.cases.is_empty() || try_answers(rt, alloc, scenario)?;
+    let are_stopped = !scenario.stops && !scenario.faults || try_kinds(rt, alloc, scenario)?;
+    Ok(are_answered && are_stopped)
+}
+
+fn try_answers(rt: &impl Print, alloc: Global, scenario: &Scenario) -> Result<bool, Ended> {
+    let findings = try_cases(alloc, scenario)?;
+    if tell_answers(rt, scenario, &findings).is_err() {
+        return Err(Ended::Output);
+    }
+    Ok((findings.violations > 0) == scenario.violations)
+}
+
+fn try_kinds(rt: &impl Print, alloc: Global, scenario: &Scenario) -> Result<bool, Ended> {
     let right = &right_of(alloc, scenario)?;
     let mut is_well = true;
     for kind in [Kind::Stop, Kind::Fault] {
@@ -87,7 +104,7 @@ fn try_kind(rt: &impl Print, bench: Bench) -> Result<bool, Ended> {
 
 // Prints the line of a scenario, and the violations.
 fn tell(rt: &impl Print, bench: Bench, findings: &Findings) -> io::Result<()> {
-    let name = bench.scenario.name.as_str();
+    let name = bench.scenario.all.name.as_str();
     let word = match bench.kind {
         Kind::Stop => "stops",
         Kind::Fault => "faults",
@@ -100,6 +117,20 @@ fn tell(rt: &impl Print, bench: Bench, findings: &Findings) -> io::Result<()> {
     let reopenings = findings.reopenings;
     let violations = findings.violations;
     println!(rt; ", {reopenings} reopenings stopped, {violations} violations")?;
+    tell_violations(rt, findings)
+}
+
+// Prints the line of a scenario with cases, and the violations.
+fn tell_answers(rt: &impl Print, scenario: &Scenario, findings: &Findings) -> io::Result<()> {
+    let name = scenario.all.name.as_str();
+    let cases = scenario.cases.len();
+    let runs = findings.runs;
+    let violations = findings.violations;
+    println!(rt; "{name}: answers, {cases} cases, {runs} runs, {violations} violations")?;
+    tell_violations(rt, findings)
+}
+
+fn tell_violations(rt: &impl Print, findings: &Findings) -> io::Result<()> {
     for line in &findings.told {
         println!(rt; "  {line}")?;
     }

@@ -1,8 +1,11 @@
 //! The text of scenarios.
 
-use crate::disks::{put_piece, run_well, waiting};
+use crate::answers::{Check, add_number};
+use crate::disks::{put_file, remove_file, run_well, waiting};
 use crate::ended::Ended;
-use crate::scenario::{Form, Scenario, Unsettled};
+use crate::pieces::{bytes_of, expanded, first_word, read_number};
+use crate::runs::Streams;
+use crate::scenario::{Case, Form, Play, Scenario, Unsettled};
 use std::alloc::Global;
 use vbm_memdisk::Pick;
 
@@ -14,13 +17,12 @@ pub(crate) fn read_scenarios(alloc: Global, text: &str) -> Result<Vec<Scenario>,
         number = number.saturating_add(1);
         match read_line(alloc, &mut scenarios, number, line.trim()) {
             Ok(()) => {}
-            Err(Ended::Here(what)) => return Err(Ended::At(number, what)),
-            Err(ended) => return Err(ended),
+            Err(ended) => return Err(ended.at(number)),
         }
     }
     for scenario in &scenarios {
-        if let Some(what) = scenario.lack() {
-            return Err(Ended::At(scenario.line, what));
+        if let Some((line, what)) = scenario.lack() {
+            return Err(Ended::At(line, what));
         }
     }
     Ok(scenarios)
@@ -37,89 +39,164 @@ fn read_line(
         return Ok(());
     }
     let (word, rest) = first_word(line);
+    let text = String::from_str(alloc, rest)?;
     if word == "scenario" {
-        let name = String::from_str(alloc, rest)?;
-        scenarios.push(Scenario::new(alloc, number, name))?;
+        scenarios.push(Scenario::new(alloc, number, text)?)?;
         return Ok(());
     }
     match scenarios.last_mut() {
+        Some(scenario) if word == "case" => scenario.add_case(alloc, number, text),
         Some(scenario) => read_part(alloc, scenario, word, rest),
         None => Err(Ended::Here("no scenario yet")),
     }
 }
 
-// A line's first word, and the rest.
-fn first_word(line: &str) -> (&str, &str) {
-    match line.split_once(' ') {
-        Some((word, rest)) => (word, rest.trim_start()),
-        None => (line, ""),
-    }
-}
-
-// Reads what is run, asked or there before.
+// Reads what is not said of one case.
 fn read_part(alloc: Global, scenario: &mut Scenario, word: &str, rest: &str) -> Result<(), Ended> {
-    let text = String::from_str(alloc, rest)?;
     match word {
-        "run" => run_well(alloc, &mut scenario.start, rest),
-        "file" => read_file(alloc, scenario, rest),
-        "waiting" => read_waiting(alloc, scenario, rest),
         "unsettled" => read_unsettled(alloc, scenario, rest),
-        "line" => scenario.tested.add(Form::Script, text),
-        "words" => scenario.tested.add(Form::Words, text),
-        "ask" => scenario.asking.add(Form::Script, text),
-        "ask-words" => scenario.asking.add(Form::Words, text),
-        _ => read_mark(scenario, word, rest),
+        "ask" => scenario.asking.add(Form::Script, script_line(alloc, rest)?),
+        "ask-words" => add_words(alloc, &mut scenario.asking, rest),
+        "byte" => scenario.add_byte(read_byte(rest)?),
+        "stops" | "faults" | "once" | "violations" => {
+            set_mark(scenario, word);
+            Ok(())
+        }
+        _ => read_case(alloc, scenario.case_mut(), word, rest),
     }
 }
 
-// Reads how it is tried.
-fn read_mark(scenario: &mut Scenario, word: &str, rest: &str) -> Result<(), Ended> {
+fn set_mark(scenario: &mut Scenario, word: &str) {
     match word {
-        "byte" => scenario.add_byte(read_byte(rest)?)?,
         "stops" => scenario.stops = true,
         "faults" => scenario.faults = true,
         "once" => scenario.once = true,
-        "violations" => scenario.violations = true,
-        _ => return Err(Ended::Here("an unknown word")),
+        _ => scenario.violations = true,
     }
-    Ok(())
 }
 
-// Puts pieces, as `AT:HEX`, or `HEX` at 0, over a file, which is made if it is absent.
-fn read_file(alloc: Global, scenario: &mut Scenario, rest: &str) -> Result<(), Ended> {
+// Reads what is said of a case, or of all cases of a scenario.
+fn read_case(alloc: Global, case: &mut Case, word: &str, rest: &str) -> Result<(), Ended> {
+    match word {
+        "run" => run_well(alloc, &mut case.start, rest),
+        "file" => read_file(alloc, case, rest),
+        "without" => remove_file(&mut case.start, rest.as_bytes()),
+        "waiting" => read_waiting(alloc, case, rest),
+        "line" | "input" | "words" | "arguments" => read_tested(alloc, case, word, rest),
+        "heads" => read_heads(alloc, case, rest),
+        "tail" => read_tail(alloc, case, rest),
+        "answer" | "each" | "status" | "calls" => read_answer(alloc, case, word, rest),
+        "absent" | "bytes" | "has" | "length" | "unchanged" => {
+            case.checks.push(Check::new(alloc, word, rest)?)?;
+            Ok(())
+        }
+        _ => read_streams(alloc, case, word, rest),
+    }
+}
+
+fn read_file(alloc: Global, case: &mut Case, rest: &str) -> Result<(), Ended> {
     let (name, pieces) = first_word(rest);
-    for piece in pieces.split_whitespace() {
-        let (at, digits) = piece.split_once(':').unwrap_or(("0", piece));
-        let bytes = read_bytes(alloc, digits)?;
-        let Ok(at) = at.parse::<u64>() else {
-            return Err(Ended::Here("no place in a file"));
-        };
-        put_piece(alloc, &mut scenario.start, name.as_bytes(), at, &bytes)?;
-    }
-    Ok(())
+    put_file(alloc, &mut case.start, name.as_bytes(), pieces)
 }
 
-fn read_waiting(alloc: Global, scenario: &mut Scenario, rest: &str) -> Result<(), Ended> {
+fn read_waiting(alloc: Global, case: &mut Case, rest: &str) -> Result<(), Ended> {
     let (pick, words) = first_word(rest);
     let pick = read_pick(pick)?;
-    scenario.start = waiting(alloc, &scenario.start, pick, words)?;
+    case.start = waiting(alloc, &case.start, pick, words)?;
     Ok(())
 }
 
 fn read_unsettled(alloc: Global, scenario: &mut Scenario, rest: &str) -> Result<(), Ended> {
-    let (name, digits) = first_word(rest);
-    let bytes = read_bytes(alloc, digits)?;
+    let (name, pieces) = first_word(rest);
+    let bytes = bytes_of(alloc, pieces)?;
     let name = String::from_str(alloc, name)?;
     scenario.unsettled.push(Unsettled { name, bytes })?;
     Ok(())
 }
 
-fn read_bytes(alloc: Global, digits: &str) -> Result<Vec<u8>, Ended> {
-    match hex::decode(alloc, digits) {
-        Ok(bytes) => Ok(bytes),
-        Err(hex::FromHexError::OutOfMemory) => Err(Ended::Memory),
-        Err(_) => Err(Ended::Here("no hexadecimal bytes")),
+// Reads what is run: a line, bytes of a script, words, or words as bytes.
+fn read_tested(alloc: Global, case: &mut Case, word: &str, rest: &str) -> Result<(), Ended> {
+    match word {
+        "line" => case.tested.add(Form::Script, script_line(alloc, rest)?),
+        "input" => case.tested.add(Form::Script, bytes_of(alloc, rest)?),
+        "words" => add_words(alloc, &mut case.tested, rest),
+        _ => case.tested.add(Form::Words, bytes_of(alloc, rest)?),
     }
+}
+
+fn script_line(alloc: Global, line: &str) -> Result<Vec<u8>, Ended> {
+    let mut bytes = Vec::from_slice(alloc, line.as_bytes())?;
+    bytes.push(b'\n')?;
+    Ok(bytes)
+}
+
+fn add_words(alloc: Global, play: &mut Play, words: &str) -> Result<(), Ended> {
+    play.add(Form::Words, Vec::from_slice(alloc, words.as_bytes())?)
+}
+
+fn read_heads(alloc: Global, case: &mut Case, rest: &str) -> Result<(), Ended> {
+    for head in rest.split_whitespace() {
+        case.heads.push(String::from_str(alloc, head)?)?;
+    }
+    Ok(())
+}
+
+// Adds a line for each head.
+fn read_tail(alloc: Global, case: &mut Case, tail: &str) -> Result<(), Ended> {
+    for head in &case.heads {
+        let head = head.as_str();
+        let line = format!(in alloc; "{head} {tail}")?;
+        case.tested
+            .add(Form::Script, script_line(alloc, line.as_str())?)?;
+    }
+    Ok(())
+}
+
+// Reads what is wanted in answer: of the next line, or of each that is under test.
+fn read_answer(alloc: Global, case: &mut Case, word: &str, rest: &str) -> Result<(), Ended> {
+    let tested = case.tested.lines.len();
+    match word {
+        "answer" => add_answers(alloc, case, rest, 1),
+        "each" => add_answers(alloc, case, rest, tested),
+        "calls" => {
+            case.calls = Some(read_number(rest)?);
+            Ok(())
+        }
+        _ => add_number(alloc, &mut case.answers, word, read_number(rest)?),
+    }
+}
+
+fn add_answers(alloc: Global, case: &mut Case, text: &str, count: usize) -> Result<(), Ended> {
+    let answer = expanded(alloc, text)?;
+    for _ in 0..count {
+        case.answers.extend_from_slice(&answer)?;
+        case.answers.push(b'\n')?;
+    }
+    Ok(())
+}
+
+// Reads the numbers with each of which a case is run.
+fn read_streams(alloc: Global, case: &mut Case, word: &str, rest: &str) -> Result<(), Ended> {
+    let mut varied = Vec::new(alloc);
+    for streams in &case.streams {
+        for number in rest.split_whitespace() {
+            varied.push(with_number(*streams, word, read_number(number)?)?)?;
+        }
+    }
+    case.streams = varied;
+    Ok(())
+}
+
+fn with_number(streams: Streams, word: &str, number: u64) -> Result<Streams, Ended> {
+    let mut streams = streams;
+    match word {
+        "piece" => streams.piece = number,
+        "source-fails-after" => streams.fails_after = Some(number),
+        "sink-limit" => streams.limit = Some(number),
+        "most" => streams.most = number,
+        _ => return Err(Ended::Here("an unknown word")),
+    }
+    Ok(streams)
 }
 
 fn read_pick(word: &str) -> Result<Pick, Ended> {

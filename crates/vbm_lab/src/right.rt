@@ -23,9 +23,9 @@ pub(crate) struct Right {
 pub(crate) fn right_of(alloc: Global, scenario: &Scenario) -> Result<Right, Ended> {
     let mut disk = begin(scenario)?;
     let first = disk.calls();
-    let outcome = run_play(alloc, &mut disk, &scenario.tested)?;
+    let outcome = run_play(alloc, &mut disk, &scenario.all.tested)?;
     let mut standings = Vec::new(alloc);
-    for n in 0..=scenario.tested.lines.len() {
+    for n in 0..=scenario.all.tested.lines.len() {
         standings.push(standing_after(alloc, scenario, n)?)?;
     }
     Ok(Right {
@@ -40,12 +40,12 @@ pub(crate) fn right_of(alloc: Global, scenario: &Scenario) -> Result<Right, Ende
 fn standing_after(alloc: Global, scenario: &Scenario, n: usize) -> Result<Vec<u8>, Ended> {
     let mut disk = begin(scenario)?;
     if n > 0 {
-        let outcome = run_some(alloc, &mut disk, &scenario.tested, n)?;
+        let outcome = run_some(alloc, &mut disk, &scenario.all.tested, n)?;
         if count_lines(&outcome.written) != n {
-            return Err(Ended::At(scenario.line, "not each line under test has one answer"));
+            return Err(Ended::At(scenario.all.line, "not each line under test has one answer"));
         }
     }
-    ask(alloc, &mut copy(&disk)?, &scenario.asking)
+    ask(alloc, &mut copy(&disk)?, scenario)
 }
 
 /// How many lines were written whole.

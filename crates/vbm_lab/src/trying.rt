@@ -83,7 +83,7 @@ fn run_broken(
         Kind::Stop => disk.stop_at(call),
         Kind::Fault => disk.fail_call(call)?,
     }
-    let outcome = run_play(bench.alloc, disk, &bench.scenario.tested)?;
+    let outcome = run_play(bench.alloc, disk, &bench.scenario.all.tested)?;
     check_outcome(bench.alloc, &outcome, &bench.right.written, place, findings)?;
     Ok(count_lines(&outcome.written))
 }
@@ -117,12 +117,12 @@ fn check_image(
 ) -> Result<(), Ended> {
     findings.images = findings.images.saturating_add(1);
     let mut disk = copy(image)?;
-    let found = ask(bench.alloc, &mut disk, &bench.scenario.asking)?;
+    let found = ask(bench.alloc, &mut disk, bench.scenario)?;
     let Some(n) = bench.right.place_of(&found, answered) else {
         let wanted = bench.right.wanted(bench.alloc, answered)?;
         return findings.add(place, &wanted, &found);
     };
-    findings.count(n > answered || n == bench.scenario.tested.lines.len());
+    findings.count(n > answered || n == bench.scenario.all.tested.lines.len());
     if is_new && !bench.scenario.once {
         for call in 0..disk.calls() {
             stop_reopening(
@@ -154,7 +154,7 @@ fn stop_reopening(
     let outcome = run_play(bench.alloc, &mut disk, &bench.scenario.asking)?;
     check_outcome(bench.alloc, &outcome, found, place, findings)?;
     let mut left = disk.images_of_last_sync(bench.torn_pick(place))?;
-    let again = ask(bench.alloc, &mut left, &bench.scenario.asking)?;
+    let again = ask(bench.alloc, &mut left, bench.scenario)?;
     if again.as_slice() == found {
         return Ok(());
     }

@@ -6,7 +6,7 @@ use Rattle.std.specs.Str.{bytes_eq}
 use Rattle.vbm_ports.specs.Files.{bytes_of}
 use Rattle.vbm_memdisk.specs.Laws.{length-put}
 use Rattle.vbm_intent.specs.declared.change.Change.{Change}
-use Rattle.vbm_intent.specs.Changes.{name_of, of_file, effect, Touches, ApartFrom, IsApart, FitsFile}
+use Rattle.vbm_intent.specs.Changes.{name_of, of_file, effect, TouchesByte, ApartFrom, IsApart, FitsFile}
 use Rattle.vbm_intent.specs.Plan.{body_size, text_size}
 use Rattle.vbm_log_tests.specs.Plans.{a_byte, a_bytes, FitsAll}
 
@@ -31,7 +31,7 @@ of_bytes name at (suc n) true is =
 of_bytes name at (suc n) false is =
     (λ i. cond (is i) (a_byte at ∷ of_file name (a_bytes (suc at) n)) (of_file name (a_bytes (suc at) n))) ∙ of_bytes name (suc at) n false is
 
-its_place : (at i : ℕ) → Touches (a_byte at) i → i ≡ at
+its_place : (at i : ℕ) → TouchesByte (a_byte at) i → i ≡ at
 its_place at i (inl w) = omega (arith, w.low, w.high)
 its_place at i (inr t) = absurd t
 

@@ -1,4 +1,4 @@
-//! Commits that are stopped at each call, and what a crash leaves of them.
+//! Commits of plans, also stopped and failing at each call, and what a crash leaves of them.
 
 ghost use Rattle.std.specs.Prelude.{◌≡◌, [], ◌∷◌, None, IfOk};
 ghost use Rattle.vbm_memdisk.specs.MemDisk.{memory_state};
@@ -9,19 +9,16 @@ use crate::redo::{End, redo_log, same_besides_log};
 use std::alloc::Global;
 use std::process::Abort;
 use std::test::Fail;
-use vbm_intent::{Change, Log, Plan};
+use vbm_intent::{Change, INDEX_ROOM, Log, Plan};
 use vbm_memdisk::{MemDisk, Pick};
 use vbm_ports::{Bytes, Failed, Text};
 
-/// The record of the plan: the 27 bytes of its body, its 2 changes, and these.
-pub(crate) static RECORD: &[u8] =
-    b"\x1b\0\0\0\x02\0\0\0\x01\x05a.vdi\0\0\0\0\0\0\0\0\x01\0\0\0\x03\x04\x05b.vdi";
+/// The record of the plan of six: the 111 bytes of its body, its 6 changes, and these.
+static RECORD: &[u8] =
+    b"o\0\0\0\x06\0\0\0\x01\x05a.vdi\0\0\0\0\0\0\0\0\x02\0\0\0\x07\x08\x03\x05a.vdi\x05\0\0\0\0\0\0\0\x02\x05b.vdi\0\0\0\0\0\0\0\0\x03\0\0\0\0\0\0\0\0\x02\x05c.vdi\0\0\0\0\0\0\0\0\x88\x13\0\0\0\0\0\0\x09\x04\x05d.vdi\x01\x05e.vdi\0\0\0\0\0\0\0\0\x01\0\0\0\x01";
 
 /// The images of a crash that are looked at.
-pub(crate) static PICKS: [Pick; 4] = [Pick::Old, Pick::New, Pick::Byte(7), Pick::Byte(0xA5)];
-
-/// How many calls of the disk start the log, and then commit the plan.
-const CALLS: u64 = 12;
+static PICKS: [Pick; 4] = [Pick::Old, Pick::New, Pick::Byte(7), Pick::Byte(0xA5)];
 
 fn write_a(alloc: Global) -> Result<Change, Fail>
     ensures { IfOk result (λ change. change ≡ a_written) }
@@ -48,7 +45,7 @@ fn plan_of_two(alloc: Global) -> Result<Plan, Fail>
     Ok(plan)
 }
 
-pub(crate) fn disk_of_two(alloc: Global) -> Result<MemDisk, Fail> {
+fn disk_of_two(alloc: Global) -> Result<MemDisk, Fail> {
     let mut disk = MemDisk::new(alloc);
     disk.put_file(b"a.vdi", b"\x01")?;
     disk.put_file(b"b.vdi", b"\x02")?;
@@ -62,68 +59,6 @@ pub(crate) fn start_and_commit(disk: &mut MemDisk, plan: &Plan) -> Result<(), Fa
 {
     let mut log = Log::start(disk)?;
     log.commit(disk, plan)
-}
-
-// A log whose gate is open holds the plan. After redo all is as before, or all is done; it is done where the gate was open.
-pub(crate) fn check_image(
-    rt: &impl Abort,
-    alloc: Global,
-    image: MemDisk,
-    is_done: bool,
-) -> Result<(), Fail> {
-    let log = image.file(b"intent.vbm").unwrap_or(b"");
-    let is_open = log.len() >= 16 && log[0] == 0xA5;
-    assert!(rt; !is_open || log.ends_with(RECORD));
-    let mut image = image;
-    assert_eq!(rt; redo_log(alloc, &mut image)?, End::Done);
-    let a = image.file(b"a.vdi");
-    let b = image.file(b"b.vdi");
-    let is_before = a == Some(b"\x01".as_slice()) && b == Some(b"\x02".as_slice());
-    let is_after = a == Some(b"\x03".as_slice()) && b.is_none();
-    assert!(rt; is_after || is_before && !is_done && !is_open);
-    Ok(())
-}
-
-// Commits the plan, and checks what a crash leaves then.
-fn check_commit(
-    rt: &impl Abort,
-    alloc: Global,
-    disk: MemDisk,
-    plan: &Plan,
-    succeeds: bool,
-) -> Result<(), Fail>
-    requires plan { plan.now.changes ≡ a_written ∷ b_removed ∷ [] }
-{
-    let mut disk = disk;
-    assert!(rt; disk.file(b"intent.vbm").is_none());
-    let is_done = start_and_commit(&mut disk, plan).is_ok();
-    assert_eq!(rt; is_done, succeeds);
-    for pick in PICKS {
-        check_image(rt, alloc, disk.images_of_last_sync(pick)?, is_done)?;
-    }
-    Ok(())
-}
-
-#[test]
-fn stops_at_each_call(rt: HostRuntime) -> Result<(), Fail> {
-    let plan = plan_of_two(rt.alloc())?;
-    for k in 0..=CALLS {
-        let mut disk = disk_of_two(rt.alloc())?;
-        disk.stop_at(k);
-        check_commit(&rt, rt.alloc(), disk, &plan, k == CALLS)?;
-    }
-    Ok(())
-}
-
-#[test]
-fn fails_at_each_call(rt: HostRuntime) -> Result<(), Fail> {
-    let plan = plan_of_two(rt.alloc())?;
-    for k in 0..=CALLS {
-        let mut disk = disk_of_two(rt.alloc())?;
-        disk.fail_call(k)?;
-        check_commit(&rt, rt.alloc(), disk, &plan, k == CALLS)?;
-    }
-    Ok(())
 }
 
 // Commits the plan over the disk of two, and checks both files.
@@ -171,7 +106,7 @@ fn put_a(alloc: Global) -> Result<Change, Fail>
     Ok(Change::Write { name, at: 0, bytes })
 }
 
-pub(crate) fn cut_a(alloc: Global, len: u64) -> Result<Change, Fail>
+fn cut_a(alloc: Global, len: u64) -> Result<Change, Fail>
     ensures { IfOk result (λ change. change ≡ a_cut len) }
 {
     let name = Text::new(alloc, b"a.vdi")?;
@@ -256,42 +191,55 @@ fn makes_changes_of_all_kinds(rt: HostRuntime) -> Result<(), Fail> {
     assert!(rt; nines.len() == 5000 && nines.iter().all(|byte| *byte == 9));
     assert!(rt; settled.file(b"d.vdi").is_none());
     assert!(rt; settled.file(b"e.vdi") == Some(b"\x01".as_slice()));
+    let log = settled.file(b"intent.vbm").unwrap_or(b"");
+    assert!(rt; log.starts_with(&[0; 8]) && log.ends_with(RECORD));
+    assert_eq!(rt; log.len(), 8 + RECORD.len());
     Ok(())
 }
 
-// Stops a commit at a call. Redone, each image has the files from before or those from after it.
-fn check_stop(
+// Commits a plan on a disk that breaks it off, or not. Redone, each image that a crash leaves has the files from before or those
+// from after it. It has the latter where all was done, and where the gate was open, behind which the record stands.
+fn check_commit(
     rt: &impl Abort,
     alloc: Global,
+    disk: MemDisk,
     plan: &Plan,
-    k: u64,
     after: &MemDisk,
-) -> Result<(), Fail>
+) -> Result<bool, Fail>
     requires fits { FitsAll plan.now.changes }
 {
     let before = disk_of_four(alloc)?;
-    let mut disk = disk_of_four(alloc)?;
-    disk.stop_at(k);
+    let mut disk = disk;
     assert!(rt; disk.file(b"intent.vbm").is_none());
     let is_done = start_and_commit(&mut disk, plan).is_ok();
-    assert_eq!(rt; is_done, k == after.calls());
     for pick in PICKS {
         let mut image = disk.images_of_last_sync(pick)?;
-        assert_eq!(rt; redo_log(alloc, &mut image)?, End::Done);
+        let log = image.file(b"intent.vbm").unwrap_or(b"");
+        let is_open = log.len() >= 16 && log[0] == 0xA5;
+        assert!(rt; !is_open || log.ends_with(RECORD));
+        assert_eq!(rt; redo_log(alloc, &mut image, INDEX_ROOM)?, End::Done);
         let is_before = same_besides_log(&image, &before);
-        assert!(rt; same_besides_log(&image, after) || is_before && !is_done);
+        assert!(rt; same_besides_log(&image, after) || is_before && !is_done && !is_open);
     }
-    Ok(())
+    Ok(is_done)
 }
 
 #[test]
-fn redoes_changes_of_all_kinds(rt: HostRuntime) -> Result<(), Fail> {
-    let plan = plan_of_six(rt.alloc())?;
-    let mut after = disk_of_four(rt.alloc())?;
+fn stops_and_fails_at_each_call(rt: HostRuntime) -> Result<(), Fail> {
+    let alloc = rt.alloc();
+    let plan = plan_of_six(alloc)?;
+    let mut after = disk_of_four(alloc)?;
     assert!(rt; after.file(b"intent.vbm").is_none());
     assert!(rt; start_and_commit(&mut after, &plan).is_ok());
     for k in 0..=after.calls() {
-        check_stop(&rt, rt.alloc(), &plan, k, &after)?;
+        let mut disk = disk_of_four(alloc)?;
+        disk.stop_at(k);
+        let is_done = check_commit(&rt, alloc, disk, &plan, &after)?;
+        assert_eq!(rt; is_done, k == after.calls());
+        let mut disk = disk_of_four(alloc)?;
+        disk.fail_call(k)?;
+        let is_done = check_commit(&rt, alloc, disk, &plan, &after)?;
+        assert_eq!(rt; is_done, k == after.calls());
     }
     Ok(())
 }

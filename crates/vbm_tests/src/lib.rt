@@ -1,14 +1,7 @@
-//! Tests of the whole: the command, the image files, the ports and the folder.
+//! Tests of what no run of the program shows: the bytes of headers, block maps that are too large for a file, the ports in memory,
+//! and what a crash leaves of a disk in memory. Runs of the program are in `tests/lab`.
 #![tactic(auto)]
 
-#[cfg(test)]
-mod edges;
-#[cfg(test)]
-mod faults;
-#[cfg(test)]
-mod fixtures;
-#[cfg(test)]
-mod forms;
 #[cfg(test)]
 mod headers;
 #[cfg(test)]
@@ -17,7 +10,3 @@ mod histories;
 mod maps;
 #[cfg(test)]
 mod ports;
-#[cfg(test)]
-mod refusals;
-#[cfg(test)]
-mod sectors;

@@ -1,14 +1,11 @@
 //! The ports in memory, and the lists and texts that they take.
 
-use crate::fixtures::{image, sector_line};
 use std::test::Fail;
 use vbm_memdisk::{MemDisk, MemSink, MemSource};
 use vbm_ports::{
-    Bytes, Failed, Names, Sequence, Sink, Source, Text, names_machine, names_medium,
+    Bytes, Disk, Failed, Sequence, Sink, Source, Text, names_machine, names_medium,
     names_store_file, put_all,
 };
-use vbm_top::{PeekResult, peek};
-use vbm_world::Refusal;
 
 #[test]
 fn keeps_sequences(rt: HostRuntime) -> Result<(), Fail> {
@@ -40,13 +37,12 @@ fn keeps_files(rt: HostRuntime) -> Result<(), Fail> {
     assert_eq!(rt; disk.file(b"q.vdi").ok_or("absent")?, b"other".as_slice());
     assert!(rt; disk.file(b"r.vdi").is_none());
     assert_eq!(rt; disk.calls(), 0);
-    let mut files: Names = Names::new(alloc);
-    let name = Text::new(alloc, b"p.vdi")?;
-    assert!(rt; names_medium(name.bytes()));
-    files.push(name)?;
-    let found = peek(alloc, &mut disk, &files, 0);
-    assert_eq!(rt; found, PeekResult::Refused(Refusal::NotAnImage(1)));
-    assert_eq!(rt; disk.calls(), 2);
+    let name = b"p.vdi".as_slice();
+    assert!(rt; names_medium(name));
+    assert_eq!(rt; disk.length(name), Ok(Some(5)));
+    assert_eq!(rt; disk.calls(), 1);
+    let names = disk.names()?;
+    assert_eq!(rt; names.len(), 2);
     Ok(())
 }
 
