@@ -81,10 +81,27 @@ class Definitions:
         return alternatives
 
 
+def served():
+    """The patterns of the commands that are served."""
+    return [patterns[0] for patterns, body in Definitions("crates", "vbm_served", "specs", "Served.antt").equations["is_served"] if body == "true"]
+
+
 def command_forms(definitions):
-    """The forms of the machine's commands, as far as they can be spelled."""
-    spelled = {patterns[0][0]: re.findall(r"\((\w+) ≡ (\w+)\)", body) for patterns, body in definitions.equations["IsSpelled"]}
-    return {form for patterns, body in definitions.equations["words_of"] for form in definitions.forms(body, spelled[patterns[0][0]])}
+    """The forms of the machine's commands that are served."""
+    forms = set()
+    for (pattern, *_), body in definitions.equations["words_of"]:
+        for asked in served():
+            if asked[0] == pattern[0]:
+                forms |= set(definitions.forms(body, [(v, c) for v, c in zip(pattern, asked) if v != c and c[0].isupper()]))
+    return forms
+
+
+def families():
+    """The files of definitions that the steps of served commands stand in."""
+    steps = {patterns[1][0]: body.split()[0] for patterns, body in Definitions("crates", "vbm_world", "specs", "Step.antt").equations["step_of"]}
+    wanted = {steps[asked[0]] for asked in served()}
+    files = [f for f in os.listdir(os.path.join(ROOT, "crates", "vbm_world", "specs")) if f.endswith(".antt")]
+    return [f for f in files if wanted & set(Definitions("crates", "vbm_world", "specs", f).types)]
 
 
 def program_forms(definitions):
@@ -103,9 +120,9 @@ def first_word(body):
 
 
 def refusals(definitions):
-    """The texts of the refusals that some definition gives."""
-    files = [("vbm_world", f) for f in os.listdir(os.path.join(ROOT, "crates", "vbm_world", "specs")) if f not in ("Texts.antt", "Lib.antt") and f.endswith(".antt")]
-    used = set().union(*(imported("Refusal", "crates", crate, "specs", file) for crate, file in [*files, ("vbm_top", "Peek.antt")]))
+    """The texts of the refusals that a served command, or `peek`, may get."""
+    files = [("vbm_world", file) for file in families()]
+    used = set().union(*(imported("Refusal", "crates", crate, "specs", file) for crate, file in [*files, ("vbm_served", "Runs.antt"), ("vbm_top", "Peek.antt")]))
     return {first_word(body) for patterns, body in definitions.equations["refusal_text"] if patterns[0][0] in used}
 
 

@@ -13,6 +13,14 @@ attach_kind_of Writethrough = Direct
 attach_kind_of MultiAttach = Own
 attach_kind_of Readonly = Direct
 
+-- a machine has an image of its own
+abbrev pub is_own : Mode → Bool
+is_own Normal = false
+is_own Immutable = true
+is_own Writethrough = false
+is_own MultiAttach = true
+is_own Readonly = false
+
 -- a running machine that uses the medium's own image keeps others from it
 abbrev pub is_locking : Mode → Bool
 is_locking Normal = true

@@ -1,35 +1,40 @@
--- Words of a form that has a medium's name.
-use Rattle.std.proofs.Common.{◌≡◌, ℕ, ◌<◌, ◌≤◌, List, [], ◌∷◌, length, get_or, Result, Err, sym, arith, subst, ◌∙◌}
+-- Words of a form.
+use Rattle.std.proofs.Common.{◌≡◌, ℕ, Bool, true, false, List, ◌∷◌, Result, Err, sym, subst, ◌∙◌}
 use Rattle.std.specs.Result.{IsErrAnd}
 use Rattle.std.proofs.lemmas.Result.{err_from_is_err_and}
-use Rattle.vbm_world.specs.declared.command.Command.{Command}
 use Rattle.vbm_lines.specs.Lines.{Words}
-use Rattle.vbm_world.specs.Texts.{IsSpelled, words_of}
+use Rattle.vbm_world.specs.declared.command.Command.{Command}
+use Rattle.vbm_world.specs.Texts.{IsForm}
+use Rattle.vbm_world.proofs.Verbs.{Verb, verb_text, Arguments, command_of, of_verb}
 use Rattle.vbm_script.specs.declared.parsing.ParseFault.{ParseFault}
-use Rattle.vbm_script.specs.declared.parsing.ParseFault.TheVariants.{NoMemory}
-use Rattle.vbm_script.specs.Parses.{IsParsed}
+use Rattle.vbm_script.specs.declared.parsing.ParseFault.TheVariants.{BadLine, NoMemory}
+use Rattle.vbm_script.specs.Parses.{Reads}
 
--- lists by their items
-pub one_item : (xs : Words) (a : List ℕ) → 1 ≤ length xs → length xs < 2 → a ≡ get_or xs 0 a → xs ≡ a ∷ []
-one_item [] a least most is = absurd (omega arith)
-one_item (x ∷ []) a least most is = cc
-one_item (x ∷ y ∷ xs) a least most is = absurd (omega arith)
-
-pub two_items : (xs : Words) (a b : List ℕ) → 2 ≤ length xs → length xs < 3 → a ≡ get_or xs 0 a → b ≡ get_or xs 1 b → xs ≡ a ∷ b ∷ []
-two_items [] a b least most is_a is_b = absurd (omega arith)
-two_items (x ∷ xs) a b least most is_a is_b =
-    let behind : xs ≡ b ∷ [] = one_item xs b (omega (arith, least)) (omega (arith, most)) is_b in cc
-
-pub three_items : (xs : Words) (a b c : List ℕ) → 3 ≤ length xs → length xs < 4 → a ≡ get_or xs 0 a → b ≡ get_or xs 1 b
-    → c ≡ get_or xs 2 c → xs ≡ a ∷ b ∷ c ∷ []
-three_items [] a b c least most is_a is_b is_c = absurd (omega arith)
-three_items (x ∷ xs) a b c least most is_a is_b is_c =
-    let behind : xs ≡ b ∷ c ∷ [] = two_items xs b c (omega (arith, least)) (omega (arith, most)) is_b is_c in cc
-
--- memory was wanting for words that are a command
-pub wanting : (words : Words) (command : Command) (fault : ParseFault) (result : Result Command ParseFault) → words ≡ words_of command
-    → IsSpelled command → fault ≡ NoMemory → IsErrAnd result (λ e. e ≡ fault) → IsParsed words result
-wanting words command fault result is spelled none from =
+-- memory was wanting where something is meant
+pub wanting : {A : Type 0} (Means : A → Type 0) (a : A) (fault : ParseFault) (result : Result A ParseFault) → Means a → fault ≡ NoMemory
+    → IsErrAnd result (λ e. e ≡ fault) → Reads Means result
+wanting {A} Means a fault result means none from =
     let p = err_from_is_err_and result from in
     let refused : result ≡ Err NoMemory = p.1 ∙ cc (p.2, none) in
-    subst (IsParsed words) (sym refused) (command, record { is = is; spelled = spelled })
+    subst (Reads Means) (sym refused) (a, means)
+
+-- a test failed and holds
+pub not_true : {b : Bool} → b ≡ false → b ≡ true → ⊥
+not_true fails holds = cc
+
+-- what stands behind the first of a list
+pub behind_first : {a b : ℕ} {xs ys : List ℕ} → a ∷ xs ≡ b ∷ ys → xs ≡ ys
+behind_first e = cc
+
+-- what was wrong with a part is wrong with the whole
+pub passes : {A B : Type 0} (Part : A → Type 0) (Whole : B → Type 0) (fault : ParseFault) → ((a : A) → Part a → (b : B) × Whole b)
+    → ((b : B) → Whole b → (a : A) × Part a) → Reads Part (Err fault) → Reads Whole (Err fault)
+passes Part Whole BadLine to from none = λ b whole. let k = from b whole in none k.0 k.1
+passes Part Whole NoMemory to from some = to some.0 some.1
+
+-- a form of a verb has the verb's arguments
+pub formed_as : (verb : Verb) (tail : Words) (c : Command) → IsForm (verb_text verb ∷ tail) c
+    → (a : Arguments verb) × IsForm (verb_text verb ∷ tail) (command_of verb a)
+formed_as verb tail c form =
+    let k = of_verb verb tail c (sym form.is) in
+    (k.0, subst (IsForm (verb_text verb ∷ tail)) (sym k.1) form)

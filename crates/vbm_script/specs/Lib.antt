@@ -1,2 +1,4 @@
 pub mod Refusals
 pub mod Parses
+pub mod Places
+pub mod Guests

@@ -2,27 +2,16 @@
 
 ghost use Rattle.std.specs.Prelude.{◌≡◌, ◌++◌, [], ◌∷◌, map, codes, decimal, IfOk, OnOk, if◌then◌else◌};
 ghost use Rattle.hex.specs.Hex.{encode_lower};
-ghost use Rattle.vbm_world.specs.Texts.{text_of, id_text, spaced, counted_words, vm_word, snapshot_word, name_word, mode_text, variant_text};
+ghost use Rattle.vbm_world.specs.Texts.{text_of, id_text, spaced, counted_words, vm_word, snapshot_word, name_word, variant_text};
 
 use crate::refusals::refusal_line;
+use crate::texts::mode_word;
 use std::alloc::{AllocError, Global};
 use uuid::Uuid;
 use vbm_modes::Mode;
 use vbm_ports::{NoMemory, Text};
 use vbm_volume::Variant;
 use vbm_world::{Answer, SnapLine, VmLine};
-
-fn mode_word(mode: Mode) -> &'static str
-    ensures { result.now ≡ mode_text mode }
-{
-    match mode {
-        Mode::Normal => "normal",
-        Mode::Immutable => "immutable",
-        Mode::Writethrough => "writethrough",
-        Mode::MultiAttach => "multiattach",
-        Mode::Readonly => "readonly",
-    }
-}
 
 fn variant_word(variant: Variant) -> &'static str
     ensures { result.now ≡ variant_text variant }

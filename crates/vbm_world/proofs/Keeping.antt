@@ -1,5 +1,5 @@
 -- A step leads from a sound world to a sound one.
-use Rattle.std.proofs.Common.{◌≡◌, ℕ, ◌+◌, ◌*◌, ◌/◌, ◌%◌, ◌^◌, ◌≤◌, Bool, true, false, ◌&&◌, ◌||◌, List, [], ◌∷◌, length, Option, Some, None, refl, sym, ap, subst, ◌∙◌, arith, is_some, is_none, IsTrue, IsFalse, IfSome, replicate, nat_lt, ◌==◌, if◌then◌else◌, leb-false, eqb-true}
+use Rattle.std.proofs.Common.{◌≡◌, ℕ, ◌+◌, ◌*◌, ◌/◌, ◌%◌, ◌^◌, ◌≤◌, Bool, true, false, ◌&&◌, ◌||◌, List, [], ◌∷◌, length, Option, Some, None, Result, Ok, Err, refl, sym, ap, subst, ◌∙◌, arith, is_some, is_none, IsTrue, IsFalse, IfSome, replicate, nat_lt, ◌==◌, if◌then◌else◌, leb-false, eqb-true}
 use Rattle.std.specs.List.{AllByRecursion, list_any}
 use Rattle.std.specs.Option.{option_map}
 use Rattle.std.specs.Str.{bytes_eq}
@@ -10,23 +10,19 @@ use Rattle.vbm_ports.specs.Names.{is_medium_name}
 use Rattle.vbm_ids.specs.declared.TheConstants.{NUMBER_LIMIT}
 use Rattle.vbm_modes.specs.declared.Mode.{Mode}
 use Rattle.vbm_volume.specs.Sectors.{FlatDisk}
-use Rattle.vbm_world.specs.declared.refusals.TheConstants.{MEDIA_LIMIT}
-use Rattle.vbm_world.specs.declared.command.Command.{Command}
-use Rattle.vbm_world.specs.declared.command.Command.TheVariants.{CreateMedium, OpenMedium, CloseMedium, ShowMediumInfo, ListHdds}
+use Rattle.vbm_world.specs.declared.limits.TheConstants.{MEDIA_LIMIT}
 use Rattle.vbm_world.specs.declared.command.Refusal.{Refusal}
-use Rattle.vbm_world.specs.declared.command.Refusal.TheVariants.{NoSuchMedium}
 use Rattle.vbm_world.specs.declared.world.WorldMedium.{WorldMedium}
 use Rattle.vbm_world.specs.declared.world.WorldSlot.{WorldSlot}
 use Rattle.vbm_world.specs.declared.world.WorldSnapshot.{WorldSnapshot}
 use Rattle.vbm_world.specs.declared.world.WorldMachine.{WorldMachine}
 use Rattle.vbm_world.specs.declared.world.Shelved.{Shelved}
-use Rattle.vbm_world.specs.declared.world.Shelved.TheVariants.{Volume, Link, Bad}
 use Rattle.vbm_named.specs.Names.{Name, find_by, has_name, put_by, without}
 use Rattle.vbm_world.specs.World.{World, medium_name, medium_of, snapshot_name, has_medium, is_in_snapshot, is_in_use, is_normal, zero_disk, with_shelved}
-use Rattle.vbm_world.specs.Refusals.{Check, first_refusal, capacity_of, is_bad_size, is_full, create_checks, open_checks, file_checks, close_checks}
-use Rattle.vbm_world.specs.Step.{Outcome, refused, refused_or, unless_refused, found_or, made_medium, opened_medium, opened, shelved, step_of}
-use Rattle.vbm_world.specs.Texts.{IsSpelled}
-use Rattle.vbm_world.specs.Sound.{HasCapacity, IsSoundMedium, IsSoundSlot, IsPlaced, AreSoundSlots, slots_of, slots_named, is_some_normal, is_of_normal, IsSoundMachine, IsSoundShelf, IsSound}
+use Rattle.vbm_world.specs.Places.{slots_of, slots_named}
+use Rattle.vbm_world.specs.Refusals.{Check, first_refusal, is_bad_size, is_full}
+use Rattle.vbm_world.specs.Outcomes.{Outcome, refused, refused_or, unless_refused, found_or, sought_or}
+use Rattle.vbm_world.specs.Sound.{HasCapacity, IsSoundMedium, IsSoundSlot, IsPlaced, AreSoundSlots, is_some_normal, is_of_normal, IsSoundMachine, IsSoundShelf, IsSound}
 use Rattle.vbm_named.proofs.Lists.{name_refl, name_sym, All-map, All-join, any_none, none_of_any, All-find, All-put, find_put_other, rises_put, length-put, All-without, others-without, find_without_other, rises_without, length-without}
 
 -- ---- outcomes
@@ -44,6 +40,11 @@ pub found : {X : Type 0} (P : Outcome → Type 0) (w : World) (refusal : Refusal
     → ((x : X) → o ≡ Some x → P (outcome x)) → P (found_or w refusal o outcome)
 found P w refusal None outcome stays goes = stays
 found P w refusal (Some x) outcome stays goes = goes x refl
+
+pub sought : {X : Type 0} (P : Outcome → Type 0) (w : World) (o : Result X Refusal) (outcome : X → Outcome) → ((refusal : Refusal) → P (refused w refusal))
+    → ((x : X) → o ≡ Ok x → P (outcome x)) → P (sought_or w o outcome)
+sought P w (Err refusal) outcome stays goes = stays refusal
+sought P w (Ok x) outcome stays goes = goes x refl
 
 -- ---- machines, where other media agree in what slots ask of them
 
@@ -101,7 +102,7 @@ module _ (media other : List WorldMedium) where
       let f = found_asked (find_by medium_name s.medium other) placed.0 (agree ∙ ap (option_map asked_of) placed.1) in
       (f.0, f.1, slot_kept of_snapshot s placed.0 f.0 f.2 placed.2)
 
-  slots_kept : (of_snapshot : Bool) (slots : List WorldSlot) → AllByRecursion (Agree media other) slots
+  pub slots_kept : (of_snapshot : Bool) (slots : List WorldSlot) → AllByRecursion (Agree media other) slots
       → AreSoundSlots media of_snapshot slots → AreSoundSlots other of_snapshot slots
   slots_kept of_snapshot slots agree sound = record {
     ports = sound.ports;
@@ -220,7 +221,7 @@ added_sound w ok m new next low shelf fits =
 
 -- ---- one medium less
 
-shelf_without : (name : Name) (media : List WorldMedium) (other : Name) (o : Option Shelved)
+pub shelf_without : (name : Name) (media : List WorldMedium) (other : Name) (o : Option Shelved)
     → IfSome o (IsSoundShelf media other) → IfSome o (IsSoundShelf (without medium_name name media) other)
 shelf_without name media other o = shelf_kept media (without medium_name name media) other o
     (λ there free. any_none _ (without medium_name name media) (All-without medium_name _ name media (none_of_any _ media free)))
@@ -246,7 +247,7 @@ removed_sound w ok name unused shelf sound = record {
   few_places = ok.few_places;
 }
 
--- ---- the commands
+-- ---- capacities
 
 whole_sectors : (n : ℕ) → is_bad_size n ≡ false → n ≡ 512 * (n / 512)
 whole_sectors n good =
@@ -257,64 +258,7 @@ pub zero_disk_fits : (capacity : ℕ) → is_bad_size capacity ≡ false → cap
 unfolding zero_disk
 zero_disk_fits capacity good = whole_sectors capacity good ∙ ap (λ (n : ℕ). 512 * n) (sym (length-replicate (capacity / 512) (replicate 512 0)))
 
-open_keeps : (w : World) → IsSound w → (name : Name) → IsTrue (is_medium_name name) → is_some (medium_of w name) ≡ false
-    → (o : Option Shelved) → w.shelf name ≡ o → AllByRecursion (λ (check : Check). check.0 ≡ false) (file_checks w o)
-    → IsSound (opened w name o).1
-open_keeps w ok name named absent (Some (Volume v)) is pass =
-    let file = subst (λ o. IfSome o (IsSoundShelf w.media name)) is (ok.shelf name) in
-    added_sound w ok (opened_medium name v)
-    (record { absent = absent; named = named; has_disk = refl; disk = file.sound.capacity_is; capacity = file.sound.good; room = pass.1.1.0 })
-    w.next ok.next (with_shelved w.shelf name None) (record {
-      sound = λ other. cond_both (bytes_eq other name) None (w.shelf other) (λ o. IfSome o (IsSoundShelf w.media other))
-          (λ e. tt) (λ e. ok.shelf other);
-      away = rw (name_refl name) refl;
-    })
-open_keeps w ok name named absent (Some (Link l)) is pass = ok
-open_keeps w ok name named absent (Some (Bad k)) is pass = ok
-open_keeps w ok name named absent None is pass = ok
+-- ---- outcomes that lead to sound worlds
 
--- a medium that is closed, as a file of the shelf
-shelved_sound : (media : List WorldMedium) (m : WorldMedium) (name : Name) (flat : Option FlatDisk) → IsTrue (is_medium_name name)
-    → HasCapacity flat m.capacity → IsFalse (is_bad_size m.capacity)
-    → IfSome (shelved m flat) (IsSoundShelf (without medium_name name media) name)
-shelved_sound media m name None named disk good = tt
-shelved_sound media m name (Some flat) named disk good = record {
-  named = named;
-  no_medium = any_none _ (without medium_name name media) (others-without medium_name name media);
-  sound = record { capacity_is = disk; good = good };
-}
-
-close_keeps : (w : World) → IsSound w → (name : Name) → IsTrue (is_medium_name name) → (m : WorldMedium) → medium_of w name ≡ Some m
-    → is_in_use w.machines name ≡ false → (delete : Bool) → IsSound
-    (record w { media = without medium_name name w.media; shelf = if delete then w.shelf else with_shelved w.shelf name (shelved m m.flat) })
-close_keeps w ok name named m is unused true =
-    removed_sound w ok name unused w.shelf (λ other. shelf_without name w.media other (w.shelf other) (ok.shelf other))
-close_keeps w ok name named m is unused false =
-    let sound = All-find medium_name (IsSoundMedium w.machines) name m w.media ok.media is in
-    removed_sound w ok name unused (with_shelved w.shelf name (shelved m m.flat)) (λ other.
-    cond_both (bytes_eq other name) (shelved m m.flat) (w.shelf other) (λ o. IfSome o (IsSoundShelf (without medium_name name w.media) other))
-    (λ e. subst (λ n. IfSome (shelved m m.flat) (IsSoundShelf (without medium_name name w.media) n)) (sym ((bytes_eq-Decides other name).0 e))
-    (shelved_sound w.media m name m.flat named sound.disk sound.capacity))
-    (λ e. shelf_without name w.media other (w.shelf other) (ok.shelf other)))
-
-LeadsToSound : Outcome → Type 0
+abbrev pub LeadsToSound : Outcome → Type 0
 LeadsToSound outcome = IsSound outcome.1
-
-pub step_keeps : (w : World) → IsSound w → (command : Command) → IsSpelled command → (number : ℕ) → IsSound (step_of w command number).1
-unfolding LeadsToSound
-step_keeps w ok (CreateMedium name size variant) spelled number =
-    unless LeadsToSound w (create_checks w name (capacity_of size)) _ (λ refusal. ok) (λ pass.
-    added_sound w ok (made_medium w name (capacity_of size) variant) (record {
-      absent = pass.0;
-      named = spelled.0;
-      has_disk = refl;
-      disk = zero_disk_fits (capacity_of size) pass.1.1.0;
-      capacity = pass.1.1.0;
-      room = pass.1.1.1.0;
-    }) (w.next + 1) (omega (arith, leb-false NUMBER_LIMIT w.next pass.1.1.1.1.0)) w.shelf (record { sound = ok.shelf; away = pass.1.0 }))
-step_keeps w ok (OpenMedium name) spelled number =
-    unless LeadsToSound w (open_checks w name) _ (λ refusal. ok) (λ pass. open_keeps w ok name spelled pass.0 (w.shelf name) refl pass.1)
-step_keeps w ok (CloseMedium name delete) spelled number = found LeadsToSound w NoSuchMedium (medium_of w name) _ ok (λ m is.
-    unless LeadsToSound w (close_checks w name) _ (λ refusal. ok) (λ pass. close_keeps w ok name spelled m is pass.0 delete))
-step_keeps w ok (ShowMediumInfo name) spelled number = found LeadsToSound w NoSuchMedium (medium_of w name) _ ok (λ m is. ok)
-step_keeps w ok ListHdds spelled number = ok

@@ -7,16 +7,13 @@ use Rattle.std.proofs.lemmas.Slice.Eq.{bytes_eq-Decides}
 use Rattle.vbm_world.specs.declared.world.ShelfFile.{ShelfFile}
 use Rattle.vbm_world.specs.declared.world.WorldMedium.{WorldMedium}
 use Rattle.vbm_world.specs.declared.world.World.{World as Shown}
-use Rattle.vbm_world.specs.declared.command.Command.{Command}
 use Rattle.vbm_world.specs.declared.command.Answer.{Answer}
 use Rattle.vbm_named.specs.Names.{Name, find_by, put_by, without, Rises}
 use Rattle.vbm_world.specs.World.{World, medium_name, medium_of, with_shelved}
-use Rattle.vbm_world.specs.Step.{Outcome, step_of}
-use Rattle.vbm_world.specs.Texts.{IsSpelled}
+use Rattle.vbm_world.specs.Outcomes.{Outcome}
 use Rattle.vbm_world.specs.Seen.{file_name, content_of, on_shelf, seen, outcome_of}
 use Rattle.vbm_world.specs.Sound.{IsSound, IsSoundShelf}
 use Rattle.vbm_named.proofs.Lists.{name_sym, has_found, find_put_same, find_put_other, rises_put, find_without_same, find_without_other}
-use Rattle.vbm_world.proofs.Keeping.{step_keeps}
 
 -- ---- shelves
 
@@ -66,8 +63,3 @@ not_on_shelf w name m sound found =
 pub ok_is : {A E : Type 0} (r : Result A E) (x : A) (Q : A → Type 0) → IfOk r (λ a. a ≡ x) → Q x → IfOk r Q
 ok_is (Ok a) x Q is holds = subst Q (sym is) holds
 ok_is (Err e) x Q is holds = tt
-
-pub sound_after : {E : Type 0} (w : World) (command : Command) (r : Result (Shown × Answer) E) → IsSound w → IsSpelled command
-    → IfOk r (λ (r : Shown × Answer). outcome_of r ≡ step_of w command 0) → IfOk r (λ (r : Shown × Answer). IsSound (seen r.0))
-sound_after w command (Ok r) sound spelled is = subst IsSound (sym (ap (λ (o : Outcome). o.1) is)) (step_keeps w sound command spelled 0)
-sound_after w command (Err e) sound spelled is = tt

@@ -15,22 +15,12 @@ use Rattle.vbm_world.specs.declared.world.WorldMedium.{WorldMedium}
 use Rattle.vbm_world.specs.declared.world.WorldSlot.{WorldSlot}
 use Rattle.vbm_world.specs.declared.world.WorldMachine.{WorldMachine}
 use Rattle.vbm_named.specs.Names.{Name}
-use Rattle.vbm_world.specs.World.{World, medium_name, machine_name, is_in_snapshot, is_frozen, medium_off, machine_off, off}
+use Rattle.vbm_world.specs.World.{World, medium_name, machine_name, is_direct, is_in_snapshot, is_frozen, medium_off, machine_off, off}
 use Rattle.vbm_world.specs.Step.{step_of}
-use Rattle.vbm_world.specs.Loose.{Unsettled, all_settled, is_refused, is_direct, loose_of_medium, IsLikeDisk, AreAlike, IsLikeMedium, IsLikeSlot, IsLikeMachine, IsLoosely}
+use Rattle.vbm_world.specs.Loose.{Unsettled, all_settled, is_refused, loose_of_medium, IsLikeDisk, AreAlike, IsLikeMedium, IsLikeSlot, IsLikeMachine, IsLoosely}
 use Rattle.vbm_world.specs.Sound.{IsSoundMachine, first_count, IsSound}
 use Rattle.vbm_named.proofs.Lists.{All-every, All-map, All-of_map, any_none, any_map, find_map, has_map, rises_map}
 use Rattle.vbm_world.proofs.Keeping.{asked_of, Agree, EachSlot, machine_kept, shelf_kept}
-
--- ---- the number of a step
-
-pub same_next : (w : World) (command : Command) (n m : ℕ) → (step_of w command n).1 ≡ (step_of w command m).1
-same_next w (CreateMedium name size variant) n m = refl
-same_next w command n m = refl
-
-pub same_refused : (w : World) (command : Command) (n m : ℕ) → is_refused (step_of w command n).0 ≡ is_refused (step_of w command m).0
-same_refused w (CreateMedium name size variant) n m = refl
-same_refused w command n m = refl
 
 -- ---- off
 

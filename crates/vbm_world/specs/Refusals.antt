@@ -1,18 +1,15 @@
 -- Refusals: first the named things of a command are looked up, from left to right, and the first that is missing is the answer.
 -- Then of the conditions that hold, that with the least number is.
-use Rattle.std.specs.Prelude.{ℕ, ◌^◌, ◌*◌, ◌%◌, ◌==◌, ◌||◌, not, nat_lt, nat_le, Bool, true, if◌then◌else◌, List, [], ◌∷◌, ◌++◌, length, Option, Some, None, is_some}
+use Rattle.std.specs.Prelude.{ℕ, ◌^◌, ◌+◌, ◌*◌, ◌%◌, ◌==◌, ◌||◌, not, nat_lt, nat_le, Bool, if◌then◌else◌, List, [], ◌∷◌, length, sum_by, Option, Some, None, is_some}
 use Rattle.vbm_ids.specs.declared.TheConstants.{NUMBER_LIMIT}
-use Rattle.vbm_ids.specs.Identifier.{is_foreign, has_id}
-use Rattle.vbm_world.specs.declared.refusals.TheConstants.{MEDIA_LIMIT}
+use Rattle.vbm_world.specs.declared.limits.TheConstants.{MEDIA_LIMIT}
 use Rattle.vbm_world.specs.declared.command.Refusal.{Refusal}
-use Rattle.vbm_world.specs.declared.command.Refusal.TheVariants.{NameTaken, FileExists, NoSuchFile, NotAnImage, DuplicateId, ForeignId, BadSize, Full, IdsSpent, BrokenChain, InUse}
-use Rattle.vbm_world.specs.declared.command.Which.TheVariants.{Media}
 use Rattle.vbm_world.specs.declared.command.Size.{Size}
 use Rattle.vbm_world.specs.declared.command.Size.TheVariants.{Mb, Bytes}
-use Rattle.vbm_world.specs.declared.world.Shelved.{Shelved}
-use Rattle.vbm_world.specs.declared.world.Shelved.TheVariants.{Volume, Link, Bad}
+use Rattle.vbm_world.specs.declared.world.WorldSnapshot.{WorldSnapshot}
+use Rattle.vbm_world.specs.declared.world.WorldMachine.{WorldMachine}
 use Rattle.vbm_named.specs.Names.{Name}
-use Rattle.vbm_world.specs.World.{World, medium_id, medium_of, is_in_use}
+use Rattle.vbm_world.specs.World.{World, medium_of}
 
 -- a condition, and the refusal that comes where it holds
 abbrev pub Check : Type 0
@@ -42,27 +39,17 @@ is_full w = nat_le MEDIA_LIMIT (length w.media)
 abbrev pub is_spent : World → Bool
 is_spent w = nat_le NUMBER_LIMIT w.next
 
-abbrev pub create_checks : World → Name → ℕ → List Check
-create_checks w name capacity =
-    (is_medium w name, NameTaken)
-    ∷ (is_some (w.shelf name), FileExists)
-    ∷ (is_bad_size capacity, BadSize)
-    ∷ (is_full w, Full Media)
-    ∷ (is_spent w, IdsSpent)
-    ∷ []
+-- so many numbers are not left of a counter
+abbrev pub is_short : (counter drawn : ℕ) → Bool
+is_short counter drawn = nat_lt NUMBER_LIMIT (counter + drawn)
 
-abbrev pub id_checks : World → List ℕ → List Check
-id_checks w id = (has_id medium_id id w.media, DuplicateId) ∷ (is_foreign w.seed w.next id, ForeignId) ∷ (is_full w, Full Media) ∷ []
+-- how many snapshots the machines have
+abbrev pub snapshots_in : World → ℕ
+snapshots_in w = sum_by (λ (m : WorldMachine). length m.snapshots) w.machines
 
--- what is asked of the file of the shelf
-abbrev pub file_checks : World → Option Shelved → List Check
-file_checks w None = (true, NoSuchFile) ∷ []
-file_checks w (Some (Bad k)) = (true, NotAnImage k) ∷ []
-file_checks w (Some (Volume v)) = id_checks w v.id
-file_checks w (Some (Link l)) = id_checks w l.id ++ (true, BrokenChain 0) ∷ []
+-- how many places the snapshots have
+abbrev pub places_of : WorldMachine → ℕ
+places_of m = sum_by (λ (s : WorldSnapshot). length s.slots) m.snapshots
 
-abbrev pub open_checks : World → Name → List Check
-open_checks w name = (is_medium w name, NameTaken) ∷ file_checks w (w.shelf name)
-
-abbrev pub close_checks : World → Name → List Check
-close_checks w name = (is_in_use w.machines name, InUse) ∷ []
+abbrev pub places_in : World → ℕ
+places_in w = sum_by places_of w.machines

@@ -7,7 +7,7 @@ use Rattle.vbm_world.specs.declared.world.Shelved.{Shelved}
 use Rattle.vbm_named.specs.Names.{Name, find_by}
 use Rattle.vbm_world.specs.World.{World}
 use Rattle.vbm_world.specs.declared.command.Answer.{Answer}
-use Rattle.vbm_world.specs.Step.{Outcome}
+use Rattle.vbm_world.specs.Outcomes.{Outcome}
 
 abbrev pub file_name : ShelfFile → Name
 file_name f = f.name

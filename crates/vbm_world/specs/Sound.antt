@@ -7,7 +7,7 @@ use Rattle.vbm_modes.specs.declared.Mode.{Mode}
 use Rattle.vbm_modes.specs.declared.Mode.TheVariants.{Normal, Immutable, Writethrough, MultiAttach, Readonly}
 use Rattle.vbm_volume.specs.Sectors.{FlatDisk}
 use Rattle.vbm_ids.specs.declared.TheConstants.{NUMBER_LIMIT}
-use Rattle.vbm_world.specs.declared.refusals.TheConstants.{MEDIA_LIMIT}
+use Rattle.vbm_world.specs.declared.limits.TheConstants.{MEDIA_LIMIT, MACHINE_LIMIT, SNAPSHOT_LIMIT, PLACE_LIMIT, PORT_LIMIT}
 use Rattle.vbm_world.specs.declared.world.WorldMedium.{WorldMedium}
 use Rattle.vbm_world.specs.declared.world.WorldSlot.{WorldSlot}
 use Rattle.vbm_world.specs.declared.world.WorldSnapshot.{WorldSnapshot}
@@ -15,17 +15,10 @@ use Rattle.vbm_world.specs.declared.world.WorldMachine.{WorldMachine}
 use Rattle.vbm_world.specs.declared.world.Shelved.{Shelved}
 use Rattle.vbm_world.specs.declared.world.Shelved.TheVariants.{Volume, Link, Bad}
 use Rattle.vbm_named.specs.Names.{Name, find_by, has_name, Rises}
-use Rattle.vbm_world.specs.World.{World, medium_name, machine_name, snapshot_name, has_medium, is_normal, is_frozen}
-use Rattle.vbm_world.specs.Loose.{is_direct}
-use Rattle.vbm_world.specs.Refusals.{is_bad_size}
+use Rattle.vbm_world.specs.World.{World, medium_name, machine_name, has_medium, is_direct, is_normal, is_immutable, is_frozen}
+use Rattle.vbm_world.specs.Places.{slots_named}
+use Rattle.vbm_world.specs.Refusals.{is_bad_size, snapshots_in, places_in}
 use Rattle.vbm_world.specs.Tree.{IsTree, branch_of}
-
-abbrev pub is_immutable : Mode → Bool
-is_immutable Normal = false
-is_immutable Immutable = true
-is_immutable Writethrough = false
-is_immutable MultiAttach = false
-is_immutable Readonly = false
 
 -- the disk, if there is one, has this capacity
 abbrev pub HasCapacity : Option FlatDisk → ℕ → Type 0
@@ -57,30 +50,21 @@ pub record IsSoundSlot (of_snapshot : Bool) (s : WorldSlot) (m : WorldMedium) : 
 abbrev pub IsPlaced : List WorldMedium → Bool → WorldSlot → Type 0
 IsPlaced media of_snapshot s = (m : WorldMedium) × (find_by medium_name s.medium media ≡ Some m) × IsSoundSlot of_snapshot s m
 
--- ports rise strictly, from this one on, and are below 30
+-- ports rise strictly, from this one on, and are below the limit
 abbrev pub RisingPorts : ℕ → List WorldSlot → Type 0
-RisingPorts low [] = low ≤ 30
+RisingPorts low [] = low ≤ PORT_LIMIT
 RisingPorts low (s ∷ slots) = (low ≤ s.port) × RisingPorts (s.port + 1) slots
 
 -- no medium stands twice
-abbrev pub AreDistinct : List WorldSlot → Type 0
-AreDistinct [] = Unit {0}
-AreDistinct (s ∷ slots) = IsFalse (has_medium s.medium slots) × AreDistinct slots
+abbrev pub HaveOwnMedia : List WorldSlot → Type 0
+HaveOwnMedia [] = Unit {0}
+HaveOwnMedia (s ∷ slots) = IsFalse (has_medium s.medium slots) × HaveOwnMedia slots
 
 -- the slots of a machine or of a snapshot
 pub record AreSoundSlots (media : List WorldMedium) (of_snapshot : Bool) (slots : List WorldSlot) : Type 0 where
   pub ports : RisingPorts 0 slots
-  pub distinct : AreDistinct slots
+  pub distinct : HaveOwnMedia slots
   pub placed : AllByRecursion (IsPlaced media of_snapshot) slots
-
--- the slots of the named snapshot, none where none is named
-abbrev pub slots_of : Option WorldSnapshot → List WorldSlot
-slots_of None = []
-slots_of (Some s) = s.slots
-
-abbrev pub slots_named : Option Name → List WorldSnapshot → List WorldSlot
-slots_named None snapshots = []
-slots_named (Some name) snapshots = slots_of (find_by snapshot_name name snapshots)
 
 abbrev pub has_at : ℕ → Name → List WorldSlot → Bool
 has_at port name slots = list_any (λ (s : WorldSlot). (s.port == port) && bytes_eq s.medium name) slots
@@ -144,6 +128,6 @@ pub record IsSound (w : World) : Type 0 where
   pub first : AllByRecursion (λ (m : WorldMedium). IsTrue (is_frozen w.machines m) → sum_by (first_count m.name) w.machines ≡ 1) w.media
   pub shelf : (name : Name) → IfSome (w.shelf name) (IsSoundShelf w.media name)
   pub few_media : length w.media ≤ MEDIA_LIMIT
-  pub few_machines : length w.machines ≤ 256
-  pub few_snapshots : sum_by (λ (m : WorldMachine). length m.snapshots) w.machines ≤ 4096
-  pub few_places : sum_by (λ (m : WorldMachine). sum_by (λ (s : WorldSnapshot). length s.slots) m.snapshots) w.machines ≤ 16384
+  pub few_machines : length w.machines ≤ MACHINE_LIMIT
+  pub few_snapshots : snapshots_in w ≤ SNAPSHOT_LIMIT
+  pub few_places : places_in w ≤ PLACE_LIMIT

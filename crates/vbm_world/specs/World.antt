@@ -1,5 +1,5 @@
 -- The machine that a store equals: flat disks and whole snapshot copies. It has no maps, positions or chains.
-use Rattle.std.specs.Prelude.{ℕ, ◌&&◌, ◌||◌, ◌/◌, Bool, true, false, if◌then◌else◌, List, map, replicate, Option}
+use Rattle.std.specs.Prelude.{ℕ, ◌&&◌, ◌||◌, ◌/◌, not, Bool, true, false, if◌then◌else◌, List, map, replicate, Option, Some, None, is_none}
 use Rattle.std.specs.List.{list_any}
 use Rattle.std.specs.Str.{bytes_eq}
 use Rattle.vbm_modes.specs.declared.Mode.{Mode}
@@ -39,6 +39,17 @@ snapshot_name s = s.name
 abbrev pub medium_of : World → Name → Option WorldMedium
 medium_of w name = find_by medium_name name w.media
 
+-- a slot without its own disk shares its medium's
+abbrev pub is_direct : WorldSlot → Bool
+is_direct s = is_none s.own
+
+abbrev pub has_own : WorldSlot → Bool
+has_own s = not (is_direct s)
+
+-- a slot that shares the disk of the medium of this name
+abbrev pub is_direct_of : Name → WorldSlot → Bool
+is_direct_of name s = is_direct s && bytes_eq s.medium name
+
 -- slots that have a medium
 abbrev pub has_medium : Name → List WorldSlot → Bool
 has_medium name slots = list_any (λ (s : WorldSlot). bytes_eq s.medium name) slots
@@ -58,10 +69,37 @@ is_normal Writethrough = false
 is_normal MultiAttach = false
 is_normal Readonly = false
 
+abbrev pub is_immutable : Mode → Bool
+is_immutable Normal = false
+is_immutable Immutable = true
+is_immutable Writethrough = false
+is_immutable MultiAttach = false
+is_immutable Readonly = false
+
+-- Snapshots have copies of the disks of media of these modes. Of the others they note that they are there.
+abbrev pub is_layered : Mode → Bool
+is_layered Normal = true
+is_layered Immutable = true
+is_layered Writethrough = false
+is_layered MultiAttach = true
+is_layered Readonly = false
+
+abbrev pub is_of_mode : (Mode → Bool) → Option WorldMedium → Bool
+is_of_mode test None = false
+is_of_mode test (Some m) = test m.mode
+
+-- a slot whose medium has a mode that passes a test
+abbrev pub is_slot_of : (Mode → Bool) → World → WorldSlot → Bool
+is_slot_of test w s = is_of_mode test (medium_of w s.medium)
+
 -- A normal medium is frozen where some snapshot has it: its disk is read through slots and snapshots alone (User Manual,
 -- Snapshots: the images of a snapshot are write-protected).
 abbrev pub is_frozen : List WorldMachine → WorldMedium → Bool
 is_frozen machines m = is_normal m.mode && list_any (is_in_snapshot m.name) machines
+
+-- a running machine has a slot of the medium
+abbrev pub is_in_run : World → Name → Bool
+is_in_run w name = list_any (λ (m : WorldMachine). m.running && has_medium name m.slots) w.machines
 
 -- the disk of zeros of this capacity in bytes
 unfoldable pub zero_disk : ℕ → FlatDisk

@@ -43,12 +43,129 @@ pub enum Command {
         name: Text,
         delete: bool,
     },
+    /// Gives a medium another mode.
+    SetMode {
+        name: Text,
+        mode: Mode,
+    },
+    /// Tells whether a start of the machine resets a slot of an immutable medium.
+    SetAutoreset {
+        vm: Text,
+        port: u8,
+        on: bool,
+    },
+    /// Gives back the room of a place's image that holds nothing.
+    Compact {
+        place: PlaceName,
+    },
+    /// Gives a medium a greater capacity, in units of 2^20 bytes.
+    Resize {
+        name: Text,
+        mb: u64,
+    },
+    /// Makes a normal medium with a copy of a place's disk.
+    CloneNew {
+        place: PlaceName,
+        name: Text,
+    },
+    /// Copies a place's disk over a medium.
+    CloneExisting {
+        place: PlaceName,
+        target: Text,
+    },
+    /// Makes a normal medium of a chain of files, base first.
+    ImportChain {
+        files: Names,
+        name: Text,
+    },
     /// Asks for what is known of a medium.
     ShowMediumInfo {
         name: Text,
     },
+    /// Counts the blocks with data in a place's image.
+    Usage {
+        place: PlaceName,
+    },
     /// Asks for the names of all media.
     ListHdds,
+    /// Asks for the names of all machines.
+    ListVms,
+    /// Makes a machine without slots.
+    CreateVm {
+        name: Text,
+    },
+    /// Removes a machine without slots and snapshots.
+    UnregisterVm {
+        vm: Text,
+    },
+    /// Gives a machine a slot with a medium.
+    Attach {
+        vm: Text,
+        port: u8,
+        name: Text,
+    },
+    /// Takes a slot from a machine.
+    Detach {
+        vm: Text,
+        port: u8,
+    },
+    /// Starts a machine.
+    StartVm {
+        vm: Text,
+    },
+    /// Stops a machine.
+    PowerOff {
+        vm: Text,
+    },
+    /// Takes a snapshot of a machine.
+    Take {
+        vm: Text,
+        name: Text,
+    },
+    /// Gives a machine the disks of a snapshot.
+    Restore {
+        vm: Text,
+        snapshot: Text,
+    },
+    /// Gives a machine the disks of its current snapshot.
+    RestoreCurrent {
+        vm: Text,
+    },
+    /// Deletes a snapshot of a machine.
+    DeleteSnapshot {
+        vm: Text,
+        snapshot: Text,
+    },
+    /// Asks for the snapshots of a machine.
+    ListSnapshots {
+        vm: Text,
+    },
+    /// Reads sectors from a slot of a running machine.
+    Read {
+        vm: Text,
+        port: u8,
+        lba: u64,
+        count: u32,
+    },
+    /// Writes sectors, whose bytes are given, to a slot of a running machine.
+    Write {
+        vm: Text,
+        port: u8,
+        lba: u64,
+        bytes: Bytes,
+    },
+    /// Fills sectors of a slot of a running machine with one byte.
+    Fill {
+        vm: Text,
+        port: u8,
+        lba: u64,
+        count: u32,
+        byte: u8,
+    },
+    /// Settles what a running machine wrote.
+    Flush {
+        vm: Text,
+    },
 }
 
 /// What there may be no more of.
@@ -56,11 +173,11 @@ pub enum Command {
 pub enum Which {
     /// Media of a library: [`MEDIA_LIMIT`](crate::MEDIA_LIMIT).
     Media,
-    /// Machines of a library: 256.
+    /// Machines of a library: [`MACHINE_LIMIT`](crate::MACHINE_LIMIT).
     Machines,
-    /// Snapshots of a library: 4096.
+    /// Snapshots of a library: [`SNAPSHOT_LIMIT`](crate::SNAPSHOT_LIMIT).
     Snapshots,
-    /// Places of the snapshots of a library: 16384.
+    /// Places of the snapshots of a library: [`PLACE_LIMIT`](crate::PLACE_LIMIT).
     Places,
 }
 

@@ -4,9 +4,10 @@ ghost use Rattle.std.specs.Prelude.{◌≡◌, ◌<◌, map, if◌then◌else◌
 ghost use Rattle.std.specs.Option.{option_copied};
 ghost use Rattle.vbm_named.specs.Names.{Rises};
 ghost use Rattle.vbm_world.specs.World.{medium_name, medium_of, with_shelved, is_frozen};
-ghost use Rattle.vbm_world.specs.Refusals.{capacity_of, first_refusal, create_checks};
-ghost use Rattle.vbm_world.specs.Step.{refused, made_medium, create_medium, opened_medium, opened, open_medium};
-ghost use Rattle.vbm_world.specs.Step.{volume_of, shelved, close_medium, show_medium_info};
+ghost use Rattle.vbm_world.specs.Refusals.{capacity_of, first_refusal};
+ghost use Rattle.vbm_world.specs.Outcomes.{refused};
+ghost use Rattle.vbm_world.specs.Media.{create_checks, made_medium, create_medium, opened_medium, opened, open_medium};
+ghost use Rattle.vbm_world.specs.Media.{volume_of, shelved, close_medium, show_medium_info, list_hdds};
 ghost use Rattle.vbm_world.specs.Seen.{seen, on_shelf, file_name, outcome_of};
 ghost use Rattle.vbm_world.specs.Sound.{IsSound};
 ghost use Rattle.vbm_world.specs.declared.command.Answer.TheVariants as answers;
@@ -23,7 +24,7 @@ use vbm_ports::{Copied, Names, NoMemory, Sequence, Text};
 use vbm_volume::{Flat, Variant, Volume};
 
 // The world after a command, and the answer.
-type Stepped = Result<(World, Answer), NoMemory>;
+pub(crate) type Stepped = Result<(World, Answer), NoMemory>;
 
 // A medium as a file of the shelf.
 fn volume_of(alloc: Global, medium: &WorldMedium, flat: &Flat) -> Result<Volume, NoMemory>
@@ -80,7 +81,12 @@ impl World {
     }
 
     // This world with other media and another shelf.
-    fn replaced(&self, alloc: Global, media: WorldMedia, shelf: Shelf) -> Result<World, NoMemory>
+    pub(crate) fn replaced(
+        &self,
+        alloc: Global,
+        media: WorldMedia,
+        shelf: Shelf,
+    ) -> Result<World, NoMemory>
         ensures { IfOk result (λ world. world ≡ record self.now { media = media; shelf = shelf }) }
     {
         Ok(World {
@@ -94,7 +100,7 @@ impl World {
     }
 
     // A refused command changes nothing.
-    fn refused(&self, alloc: Global, refusal: Refusal) -> Stepped
+    pub(crate) fn refused(&self, alloc: Global, refusal: Refusal) -> Stepped
         ensures outcome { IfOk result (λ r. outcome_of r ≡ refused (seen self.now) refusal) }
         ensures shelf { IfOk result (λ r. r.0.shelf ≡ self.now.shelf) }
     {
@@ -260,7 +266,7 @@ impl World {
     }
 
     pub(crate) fn list_hdds(&self, alloc: Global) -> Stepped
-        ensures outcome { IfOk result (λ r. outcome_of r ≡ (answers.MediaList (map medium_name self.now.media), seen self.now)) }
+        ensures outcome { IfOk result (λ r. outcome_of r ≡ list_hdds (seen self.now)) }
         ensures shelf { IfOk result (λ r. r.0.shelf ≡ self.now.shelf) }
     {
         let names = self.media_names(alloc)?;

@@ -3,20 +3,19 @@
 ghost use Rattle.std.specs.Prelude.{◌≡◌};
 ghost use Rattle.std.specs.List.{list_any};
 ghost use Rattle.std.specs.Option.{option_copied};
-ghost use Rattle.vbm_world.specs.World.{medium_of, has_medium, is_in_snapshot, is_in_use, is_normal, is_frozen};
+ghost use Rattle.vbm_world.specs.World.{is_in_snapshot, is_in_use, is_normal, is_frozen};
 ghost use Rattle.vbm_world.specs.Refusals.{capacity_of, is_bad_size, is_full, is_spent};
-ghost use Rattle.vbm_world.specs.Refusals.{first_refusal, create_checks, id_checks, file_checks, open_checks, close_checks};
-ghost use Rattle.vbm_world.specs.Seen.{seen, on_shelf};
+ghost use Rattle.vbm_world.specs.Refusals.{first_refusal};
+ghost use Rattle.vbm_world.specs.Media.{create_checks, id_checks, file_checks, open_checks, close_checks};
+ghost use Rattle.vbm_world.specs.Seen.{seen};
 
 use crate::command::{Refusal, Size, Which};
-use crate::world::{Shelved, World, WorldMachine, WorldMedium, WorldSlot};
+use crate::limits::MEDIA_LIMIT;
+use crate::lookups::has_medium;
+use crate::world::{Shelved, World, WorldMachine, WorldMedium};
 use uuid::Uuid;
 use vbm_ids::{NUMBER_LIMIT, has_id, is_foreign};
 use vbm_modes::Mode;
-use vbm_named::names::{find, is_same};
-
-/// How many media there may be.
-pub const MEDIA_LIMIT: usize = 1024;
 
 impl Size {
     /// The capacity in bytes; a product of this width does not wrap.
@@ -37,21 +36,15 @@ pub fn is_bad_size(capacity: u128) -> bool
     capacity == 0 || capacity > 1 << 41 || capacity % 512 != 0
 }
 
-fn is_normal(mode: Mode) -> bool
+pub(crate) fn is_normal(mode: Mode) -> bool
     ensures { result ≡ is_normal mode }
 {
     matches!(mode, Mode::Normal)
 }
 
-fn has_medium(slots: &[WorldSlot], name: &[u8]) -> bool
-    ensures { result ≡ has_medium name.now slots.now }
-{
-    slots.iter().any(|slot| is_same(slot.medium.bytes(), name))
-}
-
 impl WorldMachine {
     // Whether a snapshot has the medium.
-    fn has_in_snapshot(&self, name: &[u8]) -> bool
+    pub(crate) fn has_in_snapshot(&self, name: &[u8]) -> bool
         ensures { result ≡ is_in_snapshot name.now self.now }
     {
         let mut snapshots = self.snapshots.as_slice().iter();
@@ -60,25 +53,8 @@ impl WorldMachine {
 }
 
 impl World {
-    // Lends the medium of a name.
-    pub(crate) fn medium(&self, name: &[u8]) -> Option<&WorldMedium>
-        ensures { option_copied result ≡ medium_of (seen self.now) name.now }
-    {
-        find(self.media.as_slice(), name)
-    }
-
-    // Lends what the shelf's file of a name holds.
-    pub(crate) fn on_shelf(&self, name: &[u8]) -> Option<&Shelved>
-        ensures { option_copied result ≡ on_shelf self.now.shelf name.now }
-    {
-        match find(self.shelf.as_slice(), name) {
-            Some(file) => Some(&file.content),
-            None => None,
-        }
-    }
-
     // Whether a slot or a snapshot has the medium.
-    fn is_in_use(&self, name: &[u8]) -> bool
+    pub(crate) fn is_in_use(&self, name: &[u8]) -> bool
         ensures { result ≡ is_in_use self.now.machines name.now }
     {
         let mut machines = self.machines.as_slice().iter();
@@ -101,13 +77,13 @@ impl World {
         is_normal(medium.mode) && self.is_in_snapshot(medium.name.bytes())
     }
 
-    fn is_full(&self) -> bool
+    pub(crate) fn is_full(&self) -> bool
         ensures { result ≡ is_full (seen self.now) }
     {
         self.media.len() >= MEDIA_LIMIT
     }
 
-    fn is_spent(&self) -> bool
+    pub(crate) fn is_spent(&self) -> bool
         ensures { result ≡ is_spent (seen self.now) }
     {
         self.next >= NUMBER_LIMIT

@@ -119,6 +119,16 @@ pub struct WorldSnapshot {
     pub slots: WorldSlots,
 }
 
+impl Named for WorldSnapshot {
+    ghost use Rattle.vbm_world.specs.World.{snapshot_name};
+
+    ghost name_of = { snapshot_name };
+
+    fn name(&self) -> &[u8] {
+        self.name.bytes()
+    }
+}
+
 /// Snapshots, in the order of their names.
 pub type WorldSnapshots = Sequence<WorldSnapshot>;
 
@@ -131,6 +141,16 @@ pub struct WorldMachine {
     pub snapshots: WorldSnapshots,
     /// The name of the current snapshot.
     pub current: Option<Text>,
+}
+
+impl Named for WorldMachine {
+    ghost use Rattle.vbm_world.specs.World.{machine_name};
+
+    ghost name_of = { machine_name };
+
+    fn name(&self) -> &[u8] {
+        self.name.bytes()
+    }
 }
 
 /// Machines, in the order of their names.

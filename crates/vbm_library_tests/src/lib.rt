@@ -1,0 +1,5 @@
+//! Tests of the library's file.
+#![tactic(auto)]
+
+#[cfg(test)]
+mod library;

@@ -1,0 +1,12 @@
+use Rattle.std.proofs.Common.{◌∷◌, ap}
+use Rattle.std.specs.Prelude.{codes}
+use Rattle.vbm_world.specs.declared.command.Command.TheVariants.{UnregisterVm}
+use Rattle.vbm_world.specs.Texts.{IsForm}
+use Rattle.vbm_script.proofs.Forms.{wanting}
+use Rattle.vbm_script.proofs.machines.unregister_vm.Goals as goal
+
+pub returns-in_err-copy : goal.returns-in_err-copy
+returns-in_err-copy c =
+    wanting (IsForm (codes "unregistervm" ∷ c.args.tail.now)) (UnregisterVm c.in-Some.vm.now) c.in_err-copy.field-0.0 c.from_residual.result
+    (record { is = ap (λ tail. codes "unregistervm" ∷ tail) c.in-Some.ensures.0; spelled = c.in-Some.ensures.1 })
+    c.in_err-copy.ensures c.from_residual.ensures.1

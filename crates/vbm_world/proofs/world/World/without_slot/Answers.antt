@@ -1,0 +1,4 @@
+use Rattle.vbm_world.proofs.world.World.without_slot.Goals as goal
+
+pub returns-clause-outcome : goal.returns-clause-outcome
+returns-clause-outcome c = rw (c.in_ok-slots.ensures, c.as_slice.ensures) at c.with_slots_of.ensures.outcome
