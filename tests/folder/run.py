@@ -86,6 +86,22 @@ def odd_files(cases, folder):
         cases.check("a file that may not be written", ["failed", "failed", "other..........."], got)
 
 
+def places(cases, folder):
+    os.mkdir(os.path.join(folder, "sub.vdi"))
+    put(folder, "abc.vdi", "abcdef")
+    put(folder, "long.vdi", "abcdefghijklmnopqrst")
+    cases.check("lengths", ["6", "20", "absent", "failed"], cases.calls(folder, *["length,%s.vdi" % name for name in ("abc", "long", "none", "sub")]))
+    reads = [("abc", 0, "abcdef.........."), ("abc", 3, "def............."), ("abc", 6, 16 * "."), ("abc", 2**64 - 1, 16 * "."), ("none", 0, 16 * "."),
+             ("sub", 0, "failed"), ("long", 0, "abcdefghijklmnop"), ("long", 5, "fghijklmnopqrst.")]
+    cases.check("reads", [text for _, _, text in reads], cases.calls(folder, *["read,%s.vdi,%d" % (name, at) for name, at, _ in reads]))
+    cases.check("a folder", 3 * ["failed"], cases.calls(folder, "write,sub.vdi,0,x", "cut,sub.vdi,0", "remove,sub.vdi"))
+    cases.check("no file", ["ok", "ok", "absent"], cases.calls(folder, "cut,new.vdi,0", "remove,new.vdi", "length,new.vdi"))
+    written = ["write,new.vdi,2,cdefgh", "write,new.vdi,0,ab", "sync", "cut,new.vdi,6", "cut,new.vdi,7", "read,new.vdi,0"]
+    cases.check("writes, and a cut", 5 * ["ok"] + ["abcdef.........."], cases.calls(folder, *written))
+    cases.check("a gap", ["ok", "ef_z............"], cases.calls(folder, "write,new.vdi,7,z", "read,new.vdi,4"))
+    cases.check("a removal", ["ok", "ok", "absent"], cases.calls(folder, "remove,new.vdi", "sync", "length,new.vdi"))
+
+
 def many_names(cases, folder):
     writes = ["write,m%d.vdi,0,text" % i for i in range(70)]
     cases.check("70 names between two syncs", ["ok"] * 72, cases.calls(folder, "sync", *writes, "sync"))
@@ -118,7 +134,7 @@ def settling(cases, folder):
 
 def main():
     cases = Cases(os.path.abspath(sys.argv[1]))
-    for part in (odd_files, many_names, settling):
+    for part in (odd_files, places, many_names, settling):
         with tempfile.TemporaryDirectory() as folder:
             part(cases, folder)
     print("folder: %d passed, %d failed" % (cases.passed, cases.failed))

@@ -31,7 +31,8 @@ use Rattle.vbm_store.specs.declared.store.Image.{Image}
 use Rattle.vbm_engine.specs.declared.engine.Opened.{Opened}
 use Rattle.vbm_engine.specs.declared.engine.Opened.TheVariants as opened
 use Rattle.vbm_store.specs.declared.store.Store.{Store}
-use Rattle.vbm_store.specs.Serves.{image_name, image_in, IsSoundStore, Holds}
+use Rattle.vbm_ids.specs.Identifier.{has_id}
+use Rattle.vbm_store.specs.Serves.{image_id, image_name, image_in, IsSoundStore, Holds}
 use Rattle.vbm_engine.specs.Serves.{serves, IsReady}
 use Rattle.vbm_engine.specs.Recovers.{IsSettled}
 use Rattle.vbm_engine.specs.Opens.{StandsAlike, AreKeptRedone, Opens, SyncsFirst, AreRedone}
@@ -41,6 +42,7 @@ use Rattle.vbm_store.specs.declared.undone.Undone.TheVariants.{Refused, Failed, 
 use Rattle.vbm_engine.specs.Parts.{Finds, ids_of, fault_behind, OpensOf}
 use Rattle.vbm_store.proofs.Keeping.{kept_itself, kept_besides}
 use Rattle.vbm_store.proofs.Readiness.{holds_besides, unstaged_here, settled_ready}
+use Rattle.vbm_registry.specs.declared.library.TheConstants.{LONGEST_LIBRARY}
 
 -- ---- the library's file
 
@@ -48,16 +50,16 @@ starts_take : (f : List ℕ) (n : ℕ) → 8 ≤ n → starts_with nat_eq (take 
 starts_take f n long = ap (bytes_eq head) (take-take 8 n f long)
 
 -- a file that is too long is refused by its first bytes
-library_front : (f : List ℕ) (n : ℕ) → n ≡ min (length f) (2 ^ 20 + 1) → library_in (take n f) ≡ library_in f
+library_front : (f : List ℕ) (n : ℕ) → n ≡ min (length f) (LONGEST_LIBRARY + 1) → library_in (take n f) ≡ library_in f
 unfolding library_in
-library_front f n is = elim (cases_lt (2 ^ 20) (length f)) [
+library_front f n is = elim (cases_lt LONGEST_LIBRARY (length f)) [
   | inl long ↦
-      let whole : length (take n f) ≡ 2 ^ 20 + 1 = omega (arith, length-take n f) in
-      rw (starts_take f n (omega arith), lt-ltb (2 ^ 20) (length (take n f)) (omega arith), lt-ltb (2 ^ 20) (length f) long) refl
+      let whole : length (take n f) ≡ LONGEST_LIBRARY + 1 = omega (arith, length-take n f) in
+      rw (starts_take f n (omega arith), lt-ltb LONGEST_LIBRARY (length (take n f)) (omega arith), lt-ltb LONGEST_LIBRARY (length f) long) refl
   | inr short ↦ ap library_in (take_all n f (omega arith))
 ]
 
-pub front_read : (file : Option (List ℕ)) (old new : List ℕ) (n : ℕ) → file ≢ None → length old ≡ min (length (bytes_of file)) (2 ^ 20 + 1)
+pub front_read : (file : Option (List ℕ)) (old new : List ℕ) (n : ℕ) → file ≢ None → length old ≡ min (length (bytes_of file)) (LONGEST_LIBRARY + 1)
     → Reads (bytes_of file) 0 old new n → read_library (library_in (take n new)) ≡ library_file file
 front_read None old new n there long reads = absurd (there refl)
 front_read (Some f) old new n there long reads =
@@ -104,7 +106,7 @@ any_end p (x ∷ xs) y = ap (λ b. p x || b) (any_end p xs y) ∙ or_swap (p y) 
     or_swap true false c = refl
     or_swap false b c = refl
 
-pub any_id : (id : List ℕ) (images : List Image) → list_any (λ (image : Image). bytes_eq image.header.id id) images ≡ list_any (bytes_eq id) (ids_of images)
+pub any_id : (id : List ℕ) (images : List Image) → has_id image_id id images ≡ list_any (bytes_eq id) (ids_of images)
 any_id id [] = refl
 any_id id (image ∷ images) = rw (name_sym image.header.id id, any_id id images) refl
 

@@ -1,5 +1,5 @@
 -- What is known of an engine, by its store.
-use Rattle.std.proofs.Common.{List, subst, ap, inl, inr}
+use Rattle.std.proofs.Common.{List, map, subst, sym, ap, inl, inr, ◌∙◌}
 use Rattle.vbm_ports.specs.Files.{Files}
 use Rattle.vbm_ports.specs.Disk.{DiskState, Passes, OnlyReads}
 use Rattle.vbm_ports.proofs.States.{Passes-weaker}
@@ -8,13 +8,19 @@ use Rattle.vbm_intent.specs.Log.{IsBeforeOrAfter}
 use Rattle.vbm_world.specs.declared.command.Command.{Command}
 use Rattle.vbm_world.specs.declared.command.Answer.{Answer}
 use Rattle.vbm_world.specs.World.{World, off}
-use Rattle.vbm_world.specs.Step.{Outcome, step_of}
+use Rattle.vbm_world.specs.Outcomes.{Outcome}
+use Rattle.vbm_world.specs.Step.{step_of}
 use Rattle.vbm_world.specs.Loose.{Unsettled, unsettled_after}
 use Rattle.vbm_store.specs.declared.store.Store.{Store}
 use Rattle.vbm_store.specs.Serves as stores
-use Rattle.vbm_store.specs.Serves.{StandsLoosely}
+use Rattle.vbm_registry.specs.declared.library.Library.{Library}
+use Rattle.vbm_registry.specs.Library.{medium_entry_name, IsLibrary, IsQuiet}
+use Rattle.vbm_store.specs.Serves.{image_name, StandsLoosely}
 use Rattle.vbm_store.specs.Turns.{IsInStep}
-use Rattle.vbm_store.specs.Steps.{Manages}
+use Rattle.vbm_store.specs.declared.decision.Turn.{Turn}
+use Rattle.vbm_store.specs.declared.store.Committed.TheVariants.{Done}
+use Rattle.vbm_store.specs.Commits.{HandsBack}
+use Rattle.vbm_store.specs.Steps.{Manages, IsSoundTurn}
 use Rattle.vbm_store.proofs.Readiness as readiness
 use Rattle.vbm_store.proofs.Turning.{stands_more, read_passes, manage_passes}
 use Rattle.vbm_engine.specs.declared.engine.Engine.{Engine}
@@ -49,3 +55,12 @@ module _ {tells : Type 0} (e : Store) (c : Command) {old mid : DiskState} (reads
       in_command image (inl before) = before_step w c u image before
       in_command image (inr after) =
           inr (subst (λ v. StandsLoosely (off v) (unsettled_after u w c) image) (ap (λ (o : Outcome). o.1) owes.by) after)
+
+-- a commit leaves a sound store
+pub sound_turn : (e : Store) (turn : Turn) → IsSoundTurn e turn → (next : Store) → HandsBack e turn.library turn.edit (Done next) → stores.IsSoundStore next
+sound_turn e turn sound next back =
+    record {
+      library = subst IsLibrary (sym back.0) sound.0;
+      quiet = subst IsQuiet (sym back.0) sound.1;
+      images = ap (map image_name) back.1 ∙ sound.2 ∙ sym (ap (λ (l : Library). map medium_entry_name l.media) back.0);
+    }

@@ -17,9 +17,9 @@ use std::alloc::Global;
 use uuid::Uuid;
 use vbm_intent::{Log, Plan};
 use vbm_machines::Machines;
-use vbm_ports::{Disk, Failed, NoMemory, Sequence};
+use vbm_ports::{Disk, Failed, LIBRARY_NAME, NoMemory, Sequence};
 use vbm_registry::{BadStore, Library, Media};
-use vbm_store::{LIBRARY_NAME, Undone, plan_library};
+use vbm_store::{Undone, plan_library};
 
 fn empty_library(alloc: Global, seed: Uuid) -> Library
     ensures { result ≡ empty_library seed }

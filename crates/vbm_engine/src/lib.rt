@@ -3,6 +3,7 @@
 
 mod engine;
 mod init;
+mod managing;
 mod opening;
 mod recover;
 mod step;

@@ -18,21 +18,17 @@ ghost use Rattle.vbm_store.specs.Images.{OpensImage, is_failed_image};
 ghost use Rattle.vbm_store.specs.Serves.{image_name, image_in, Holds};
 ghost use Rattle.vbm_engine.specs.Opens.{Opens, SyncsFirst, OpensSound, opening_failed, StandsAlike};
 ghost use Rattle.vbm_engine.specs.Parts.{OnBad, Finds, ids_of, fault_behind, OpensOf};
+ghost use Rattle.vbm_intent.specs.declared.limits.TheConstants.{LONGEST_BODY};
 
 use crate::engine::{Engine, Opened};
 use crate::recover::{BadLog, recover_record};
 use std::alloc::Global;
 use uuid::Uuid;
-use vbm_ids::is_foreign;
+use vbm_ids::{has_id, is_foreign};
 use vbm_intent::{Log, record_size};
-use vbm_ports::{Disk, Failed, NoMemory, Text};
-use vbm_registry::{BadStore, DecodeFault, Library, Medium, decode};
+use vbm_ports::{Disk, Failed, LIBRARY_NAME, NoMemory, Text};
+use vbm_registry::{BadStore, DecodeFault, LONGEST_LIBRARY, Library, Medium, decode};
 use vbm_store::{Image, Images, OpenFault, Store, Undone, open_image};
-
-const LIBRARY: &[u8] = b"library.vbm";
-
-/// No library is longer, in bytes.
-const LONGEST_LIBRARY: u64 = 1 << 20;
 
 /// Opens a store: makes the changes that wait in its log, and reads its library and every image of it. The first fault of the
 /// store is the answer otherwise; its files then stay, but for a log whose gate was open, whose changes are made. A crash inside
@@ -74,7 +70,7 @@ fn open_pending<D: Disk>(alloc: Global, disk: &mut D, size: u32) -> Opened
     requires settled { D.tells → Only (D.state disk.old).files (D.state disk.old).may_leave }
     requires open { D.tells → IsOpen ((D.state disk.old).files log_name) }
     requires told { D.tells → size ≡ recorded_size ((D.state disk.old).files log_name) }
-    requires bound { size ≤ 2 ^ 25 }
+    requires bound { size ≤ LONGEST_BODY }
     ensures opens { D.tells → Opens (D.state disk.old) (D.state disk.new) result }
     ensures sound { OpensSound result }
     ensures any_moment { D.tells
@@ -178,17 +174,17 @@ fn load_library<D: Disk>(alloc: Global, disk: &mut D) -> Result<Library, Undone<
     ensures reads { OnlyReads D.tells (D.state disk.old) (D.state disk.new) }
     ensures faults { IsCounted (has_failed result) (D.state disk.old).faults (D.state disk.new).faults }
 {
-    match disk.length(LIBRARY) {
+    match disk.length(LIBRARY_NAME) {
         Err(Failed) => Err(Undone::Failed),
         Ok(None) => Err(Undone::Refused(BadStore::NoLibrary)),
-        Ok(Some(len)) => { read_front(alloc, disk, len.min(LONGEST_LIBRARY + 1) as usize) }
+        Ok(Some(len)) => { read_front(alloc, disk, len.min(LONGEST_LIBRARY as u64 + 1) as usize) }
     }
 }
 
 // The library that the first bytes of its file spell.
 fn read_front<D: Disk>(alloc: Global, disk: &mut D, len: usize) -> Result<Library, Undone<BadStore>>
     requires file { D.tells → (D.state disk.old).files library_name ≢ None }
-    requires long { D.tells → len ≡ min (length (bytes_of ((D.state disk.old).files library_name))) (2 ^ 20 + 1) }
+    requires long { D.tells → len ≡ min (length (bytes_of ((D.state disk.old).files library_name))) (LONGEST_LIBRARY + 1) }
     ensures told { D.tells
         → Finds (λ l. library_of (D.state disk.old).files ≡ Ok l) (λ bad. library_of (D.state disk.old).files ≡ Err bad) result }
     ensures rules { IfOk result IsLibrary }
@@ -208,7 +204,7 @@ fn read_into<D: Disk>(
     front: &mut [u8],
 ) -> Result<Library, Undone<BadStore>>
     requires file { D.tells → (D.state disk.old).files library_name ≢ None }
-    requires long { D.tells → length front.old ≡ min (length (bytes_of ((D.state disk.old).files library_name))) (2 ^ 20 + 1) }
+    requires long { D.tells → length front.old ≡ min (length (bytes_of ((D.state disk.old).files library_name))) (LONGEST_LIBRARY + 1) }
     ensures told { D.tells
         → Finds (λ l. library_of (D.state disk.old).files ≡ Ok l) (λ bad. library_of (D.state disk.old).files ≡ Err bad) result }
     ensures rules { IfOk result IsLibrary }
@@ -216,7 +212,7 @@ fn read_into<D: Disk>(
     ensures reads { OnlyReads D.tells (D.state disk.old) (D.state disk.new) }
     ensures faults { IsCounted (has_failed result) (D.state disk.old).faults (D.state disk.new).faults }
 {
-    let Ok(n) = disk.read(LIBRARY, 0, front) else {
+    let Ok(n) = disk.read(LIBRARY_NAME, 0, front) else {
         return Err(Undone::Failed);
     };
     decode_library(alloc, &front[..n])
@@ -286,19 +282,13 @@ fn push_image(images: &mut Images, image: Image) -> Result<(), Undone<BadStore>>
     ensures no_fault { has_failed result ≡ false }
 {
     let Image { name, header } = image;
-    if has_id(images, header.id) {
+    if has_id(images.as_slice(), header.id) {
         return Err(Undone::Refused(BadStore::SameId(name)));
     }
     match images.push(Image { name, header }) {
         Ok(()) => Ok(()),
         Err(NoMemory) => Err(Undone::NoMemory),
     }
-}
-
-fn has_id(images: &Images, id: Uuid) -> bool
-    ensures { result ≡ list_any (λ (image : Image). bytes_eq image.header.id id) images.now }
-{
-    images.as_slice().iter().any(|image| image.header.id == id)
 }
 
 // Opens the image of a medium, which is of a whole disk and has an identifier that is not foreign.

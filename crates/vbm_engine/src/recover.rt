@@ -8,9 +8,10 @@ ghost use Rattle.vbm_intent.specs.Changes.{log_name};
 ghost use Rattle.vbm_intent.specs.Log.{IsLikeRedone};
 ghost use Rattle.vbm_engine.specs.Recovers.{IsWaiting, Recovers};
 ghost use Rattle.vbm_store.specs.Undone.{has_failed};
+ghost use Rattle.vbm_intent.specs.declared.limits.TheConstants.{LONGEST_BODY};
 
 use std::alloc::Global;
-use vbm_intent::{INDEX_ROOM, Log, Redone, record_size, redo};
+use vbm_intent::{INDEX_ROOM, LOG_HEAD_LEN, Log, Redone, record_size, redo};
 use vbm_ports::{Disk, Failed, NoMemory};
 use vbm_store::Undone;
 
@@ -38,7 +39,7 @@ pub(crate) fn recover_record<D: Disk>(
     size: Option<u32>,
 ) -> Result<Log, Undone<BadLog>>
     requires told { D.tells → IsWaiting size ((D.state disk.old).files log_name) }
-    requires bound { IfSome size (λ n. n ≤ 2 ^ 25) }
+    requires bound { IfSome size (λ n. n ≤ LONGEST_BODY) }
     ensures recovers { D.tells → Recovers (D.state disk.old) (D.state disk.new) result }
     ensures any_moment { D.tells → Only (D.state disk.old).files (D.state disk.old).may_leave
         → Passes (D.state disk.old) (D.state disk.new) (IsLikeRedone (D.state disk.old).files) }
@@ -56,11 +57,11 @@ pub(crate) fn recover_record<D: Disk>(
 
 // Room for the record that waits, if one does, and for an index of its changes.
 fn room_for(alloc: Global, size: Option<u32>) -> Result<Vec<u8>, NoMemory>
-    requires { IfSome size (λ n. n ≤ 2 ^ 25) }
-    ensures { IfOk result (λ room. IfSome size (λ n. 16 + n ≤ vec_len room)) }
+    requires { IfSome size (λ n. n ≤ LONGEST_BODY) }
+    ensures { IfOk result (λ room. IfSome size (λ n. LOG_HEAD_LEN + n ≤ vec_len room)) }
 {
     let len = match size {
-        Some(n) => 16 + n as usize + INDEX_ROOM as usize,
+        Some(n) => LOG_HEAD_LEN + n as usize + INDEX_ROOM as usize,
         None => 0,
     };
     vec![in alloc; 0; len].map_err(|_| NoMemory)

@@ -6,48 +6,61 @@ ghost use Rattle.vbm_ports.specs.Crash.{Only};
 ghost use Rattle.vbm_ports.specs.Disk.{Passes, OnlyReads};
 ghost use Rattle.vbm_world.specs.World.{off};
 ghost use Rattle.vbm_world.specs.Loose.{Unsettled};
-ghost use Rattle.vbm_world.specs.Texts.{IsSpelled};
+ghost use Rattle.vbm_served.specs.Served.{IsServed};
 ghost use Rattle.vbm_registry.specs.Stands.{Stands};
 ghost use Rattle.vbm_store.specs.Kept.{AreKept};
 ghost use Rattle.vbm_store.specs.Serves.{IsSoundStore, FitsDisk as StoreFits, StandsLoosely};
-ghost use Rattle.vbm_store.specs.Steps.{Decides, DecidesSound, deciding_failed};
+ghost use Rattle.vbm_store.specs.Undone.{has_failed};
+ghost use Rattle.vbm_store.specs.Steps.{Decides, DecidesSound};
 ghost use Rattle.vbm_engine.specs.Serves.{serves, IsSoundEngine, FitsDisk, IsReady};
 ghost use Rattle.vbm_engine.specs.Steps.{Hands, HandsSound, IsInCommand, step_failed};
 
 use crate::engine::{Engine, Stepped};
+use crate::managing::{close_medium, create_medium, open_medium};
 use std::alloc::Global;
-use vbm_media::{decide_close, decide_create, decide_list, decide_open, decide_show};
+use vbm_media::{answer_list, answer_show};
 use vbm_ports::{Disk, Failed};
-use vbm_store::{Committed, Decided, Store};
-use vbm_world::Command;
+use vbm_store::{Committed, Decision, Store, Turn, Undone};
+use vbm_world::{Answer, Command, Refusal};
 
-/// Decides a command: reads alone.
+/// Decides a command. Until it is known to be done, the store is only read.
 pub(crate) fn decide<D: Disk>(
     alloc: Global,
-    store: &Store,
+    store: &mut Store,
     disk: &mut D,
     command: &Command,
-) -> Decided
-    requires sound { IsSoundStore store.now }
-    requires spelled { IsSpelled command.now }
-    requires fits { D.tells → StoreFits store.now (D.state disk.old) }
-    ensures decides { D.tells → Decides (D.state disk.old).files store.now command.now result }
-    ensures sound { DecidesSound store.now result }
+) -> Result<Decision, Undone<Refusal>>
+    requires sound { IsSoundStore store.old }
+    requires served { IsServed command.now }
+    requires fits { D.tells → StoreFits store.old (D.state disk.old) }
+    ensures store { store.new ≡ store.old }
+    ensures decides { D.tells → Decides (D.state disk.old).files store.old command.now result }
+    ensures sound { DecidesSound store.old result }
     ensures reads { OnlyReads D.tells (D.state disk.old) (D.state disk.new) }
-    ensures faults { IsCounted (deciding_failed result) (D.state disk.old).faults (D.state disk.new).faults }
+    ensures faults { IsCounted (has_failed result) (D.state disk.old).faults (D.state disk.new).faults }
 {
     match command {
         Command::CreateMedium {
             name,
             size,
             variant,
-        } => decide_create(alloc, store, disk, name, *size, *variant),
-        Command::OpenMedium { name } => decide_open(alloc, store, disk, name.bytes()),
-        Command::CloseMedium { name, delete } => {
-            decide_close(alloc, store, name.bytes(), *delete)
-        }
-        Command::ShowMediumInfo { name } => decide_show(store, name.bytes()),
-        Command::ListHdds => decide_list(alloc, store),
+        } => Ok(Decision::Turn(create_medium(alloc, store, disk, name.bytes(), *size, *variant)?)),
+        Command::OpenMedium { name } => Ok(Decision::Turn(open_medium(
+            alloc,
+            store,
+            disk,
+            name.bytes(),
+        )?)),
+        Command::CloseMedium { name, delete } => Ok(Decision::Turn(close_medium(
+            alloc,
+            store,
+            disk,
+            name.bytes(),
+            *delete,
+        )?)),
+        Command::ShowMediumInfo { name } => Ok(Decision::Answer(answer_show(store, name.bytes())?)),
+        Command::ListHdds => Ok(Decision::Answer(answer_list(alloc, store)?)),
+        _ => unreachable!(),
     }
 }
 
@@ -56,7 +69,7 @@ impl Engine {
     /// `Broken` the store has to be opened again.
     pub fn step<D: Disk>(self, alloc: Global, disk: &mut D, command: &Command) -> Stepped
         requires sound { IsSoundEngine self }
-        requires spelled { IsSpelled command.now }
+        requires served { IsServed command.now }
         requires fits { D.tells → FitsDisk self (D.state disk.old) }
         ensures step { D.tells → Hands (D.state disk.old) (D.state disk.new) self command.now result }
         ensures sound { HandsSound result }
@@ -64,21 +77,27 @@ impl Engine {
             → Passes (D.state disk.old) (D.state disk.new) (IsInCommand (serves self (D.state disk.old).files) command.now u) }
         ensures faults { IsCounted (step_failed result) (D.state disk.old).faults (D.state disk.new).faults }
     {
-        let decided = decide(alloc, &self.store, disk, command);
-        match decided {
-            Decided::Stay(answer) => Stepped::Next(self, answer),
-            Decided::NoMemory => Stepped::NoMemory(self),
-            Decided::Failed => Stepped::Broken,
-            Decided::Turn {
-                library,
-                edit,
-                plan,
-                answer,
-            } => match self.store.turn(disk, library, edit, &plan) {
-                Committed::Done(store) => Stepped::Next(Engine { store }, answer),
-                Committed::NoMemory(store) => Stepped::NoMemory(Engine { store }),
-                Committed::Failed => Stepped::Broken,
-            },
+        let Engine { mut store } = self;
+        match decide(alloc, &mut store, disk, command) {
+            Ok(Decision::Answer(answer)) => Stepped::Next(Engine { store }, answer),
+            Ok(Decision::Turn(turn)) => {
+                let Turn {
+                    library,
+                    edit,
+                    plan,
+                    answer,
+                } = turn;
+                match store.turn(disk, library, edit, &plan) {
+                    Committed::Done(store) => Stepped::Next(Engine { store }, answer),
+                    Committed::NoMemory(store) => Stepped::NoMemory(Engine { store }),
+                    Committed::Failed => Stepped::Broken,
+                }
+            }
+            Err(Undone::Refused(refusal)) => {
+                Stepped::Next(Engine { store }, Answer::Refused(refusal))
+            }
+            Err(Undone::Failed) => Stepped::Broken,
+            Err(Undone::NoMemory) => Stepped::NoMemory(Engine { store }),
         }
     }
 

@@ -7,7 +7,7 @@ use Rattle.vbm_header.specs.declared.Header.{Header}
 use Rattle.vbm_header.specs.declared.ImageType.{ImageType}
 use Rattle.vbm_header.specs.declared.ImageType.TheVariants.{Dynamic, Fixed, Differencing}
 use Rattle.vbm_header.specs.Field.{number_at, uuid_at}
-use Rattle.vbm_header.specs.Header.{header_of, header_conditions, has_header_size, has_size, has_layout, has_id, fields, unless, image_type_of, first_that_fails}
+use Rattle.vbm_header.specs.Header.{header_of, header_conditions, has_header_size, has_size, has_layout, is_identified, fields, unless, image_type_of, first_that_fails}
 use Rattle.vbm_header.specs.Written.{AreNumbers, AreUuids, header_bytes, type_number, start, sizes, identifiers}
 use Rattle.vbm_header.proofs.Fields.{swap_fields-swap_fields}
 
@@ -118,7 +118,7 @@ fields-front h fits =
 
 -- A header that was written is read back, from a file of any length that its conditions allow.
 pub header_of-header_bytes : (h : Header) (len : ℕ) → IsStorable h → 456 ≤ len
-    → has_header_size h ≡ true → has_size h ≡ true → has_layout h len ≡ true → has_id h ≡ true
+    → has_header_size h ≡ true → has_size h ≡ true → has_layout h len ≡ true → is_identified h ≡ true
     → header_of (take 456 (header_bytes h)) len ≡ Ok h
 unfolding header_of header_conditions front
 header_of-header_bytes h len fits long header_size size layout id =
@@ -136,6 +136,6 @@ header_of-header_bytes h len fits long header_size size layout id =
       block,
       ap has_size same ∙ size,
       ap (λ x. has_layout x len) same ∙ layout,
-      ap has_id same ∙ id,
+      ap is_identified same ∙ id,
     ) refl in
     ap (λ o. unless o (fields (front h))) passed ∙ ap Ok same

@@ -77,8 +77,8 @@ has_layout h len =
     && nat_le (h.off_blocks + 4 * h.blocks) len
 
 -- the image's UUID isn't the nil UUID (RFC 9562, 5.9)
-abbrev pub has_id : Header → Bool
-has_id h = not (is_nil_bytes h.id)
+abbrev pub is_identified : Header → Bool
+is_identified h = not (is_nil_bytes h.id)
 
 -- the conditions on the header of a file of len bytes, in their order; u32Signature stands at 64, u32Version at 68,
 -- cbBlock at 376 and cbBlockExtra at 380
@@ -92,7 +92,7 @@ header_conditions f len =
     ∷ (BlockSize, number_at f 376 4 == 2 ^ 20 && number_at f 380 4 == 0)
     ∷ (Size, has_size (fields f))
     ∷ (Layout, has_layout (fields f) len)
-    ∷ (NilId, has_id (fields f))
+    ∷ (NilId, is_identified (fields f))
     ∷ []
 
 -- the value, unless a condition failed

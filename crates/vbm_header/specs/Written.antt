@@ -1,4 +1,4 @@
--- The first 472 bytes of an image, as `write_header` makes them: the fields in the order of their places.
+-- The first WRITTEN_LEN bytes of an image, as `write_header` makes them: the fields in the order of their places.
 use Rattle.std.specs.Prelude.{◌≡◌, ℕ, ◌^◌, ◌<◌, List, ◌++◌, codes, replicate, length}
 use Rattle.byteorder.specs.Endian.{little_bytes}
 use Rattle.uuid.specs.Parts.{swap_fields}

@@ -20,6 +20,9 @@ pub use writing::write_header;
 /// How many bytes of a file `read_header` needs.
 pub const HEADER_LEN: usize = 456;
 
+/// How many bytes of a file `write_header` makes.
+pub const WRITTEN_LEN: usize = 472;
+
 /// The bytes of a block, the unit in which an image is allocated: VDI's cbBlock.
 pub const BLOCK_LEN: u64 = 1 << 20;
 

@@ -1,27 +1,27 @@
 // Writing a header.
 
 ghost use Rattle.std.specs.Prelude.{◌≡◌, ◌+◌, ◌-◌, ◌≤◌, ◌<◌, ◌^◌, ◌++◌, ℕ, List, length, take, drop, codes, IsTrue, Ok};
-ghost use Rattle.vbm_header.specs.Header.{header_of, has_header_size, has_size, has_layout, has_id};
+ghost use Rattle.vbm_header.specs.Header.{header_of, has_header_size, has_size, has_layout, is_identified};
 ghost use Rattle.byteorder.specs.Endian.{little_bytes};
 ghost use Rattle.uuid.specs.Parts.{swap_fields};
 ghost use Rattle.vbm_header.specs.Written.{header_bytes, zeros, geometry, start, sizes, identifiers, AreUuids, AreNumbers};
 
 use crate::places::*;
 use crate::values::{u32_bytes, u64_bytes, uuid_bytes};
-use crate::{BLOCK_LEN, Header, SECTOR_LEN};
+use crate::{BLOCK_LEN, Header, SECTOR_LEN, WRITTEN_LEN};
 use uuid::Uuid;
 
 const TITLE: &[u8] = b"vbm disk image\n";
 
-/// Writes the first 472 bytes of an image with this header, which is of the form of 400 bytes.
+/// Writes the first [`WRITTEN_LEN`] bytes of an image with this header, which is of the form of 400 bytes.
 ///
 /// What a reader skips is zero, but for a title at the start and the sector sizes of both geometries.
-pub fn write_header(header: &Header, out: &mut [u8; 472])
+pub fn write_header(header: &Header, out: &mut [u8; WRITTEN_LEN])
     requires { header.now.cb_header ≡ 400 }
     ensures written { out.new ≡ header_bytes header.now }
     // A header that meets the conditions is read back, from a file of any length that they allow.
     ensures read_back { (len : ℕ) → 456 ≤ len → IsTrue (has_header_size header.now)
-        → IsTrue (has_size header.now) → IsTrue (has_layout header.now len) → IsTrue (has_id header.now)
+        → IsTrue (has_size header.now) → IsTrue (has_layout header.now len) → IsTrue (is_identified header.now)
         → header_of (take 456 out.new) len ≡ Ok header.now }
 {
     put_start(header, out);
@@ -60,8 +60,8 @@ fn put_sizes(header: &Header, out: &mut [u8])
 }
 
 fn put_identifiers(header: &Header, out: &mut [u8])
-    requires { 472 ≤ length out.old }
-    ensures written { take 472 out.new ≡ take 392 out.old ++ identifiers header.now }
+    requires { WRITTEN_LEN ≤ length out.old }
+    ensures written { take WRITTEN_LEN out.new ≡ take 392 out.old ++ identifiers header.now }
     // What makes them read back.
     ensures sizes { AreUuids header.now }
 {

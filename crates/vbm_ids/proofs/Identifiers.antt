@@ -8,7 +8,7 @@ use Rattle.std.proofs.lemmas.List.{drop_at, get_or_append_left, get_or-append_ri
 use Rattle.uuid.specs.Uuid.{version_num}
 use Rattle.vbm_ids.specs.declared.Kind.{Kind}
 use Rattle.vbm_ids.specs.declared.Kind.TheVariants.{Medium, Modify, Inner, InnerModify}
-use Rattle.vbm_ids.specs.Identifier.{kind_number, version_byte, first_half, identifier_of, counted_in, number_in}
+use Rattle.vbm_ids.specs.Identifier.{kind_number, version_byte, first_half, identifier_of, count_of_id, number_in}
 
 abbrev kind_of : ℕ → Kind
 kind_of n = if n == 0 then Medium else if n == 1 then Modify else if n == 2 then Inner else InnerModify
@@ -64,9 +64,9 @@ module _ (seed : List ℕ) (long : 6 ≤ length seed) where
   )
 
 -- an identifier other than that of what it counts has no number
-pub no_number : (seed : List ℕ) (kind : Kind) (id : List ℕ) (n : ℕ) (made : List ℕ) → n ≡ counted_in id → made ≡ identifier_of seed kind n
+pub no_number : (seed : List ℕ) (kind : Kind) (id : List ℕ) (n : ℕ) (made : List ℕ) → n ≡ count_of_id id → made ≡ identifier_of seed kind n
     → bytes_eq id made ≡ false → None ≡ number_in seed kind id
 unfolding number_in
 no_number seed kind id n made counts is_made other =
-    sym (ap (λ (same : Bool). cond same (Some (counted_in id)) None)
+    sym (ap (λ (same : Bool). cond same (Some (count_of_id id)) None)
     (ap (λ (made : List ℕ). bytes_eq id made) (sym (is_made ∙ ap (identifier_of seed kind) counts)) ∙ other))

@@ -33,12 +33,12 @@ unfoldable pub identifier_of : (seed : List ℕ) → Kind → ℕ → List ℕ
 identifier_of seed kind n = first_half seed kind ++ to_be_bytes w64 (2 ^ 63 + n)
 
 -- what bytes 8 to 15 count, from 2^63 on
-abbrev pub counted_in : List ℕ → ℕ
-counted_in id = from_be_bytes w64 (drop 8 id) % NUMBER_LIMIT
+abbrev pub count_of_id : List ℕ → ℕ
+count_of_id id = from_be_bytes w64 (drop 8 id) % NUMBER_LIMIT
 
 -- the number of an identifier of this seed and kind
 unfoldable pub number_in : (seed : List ℕ) → Kind → List ℕ → Option ℕ
-number_in seed kind id = if bytes_eq id (identifier_of seed kind (counted_in id)) then Some (counted_in id) else None
+number_in seed kind id = if bytes_eq id (identifier_of seed kind (count_of_id id)) then Some (count_of_id id) else None
 
 abbrev pub is_not_below : ℕ → Option ℕ → Bool
 is_not_below next None = false

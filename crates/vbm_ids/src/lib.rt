@@ -7,7 +7,7 @@ ghost use Rattle.std.specs.Int.{w64, from_be_bytes};
 ghost use Rattle.uuid.specs.Uuid.{version_num};
 ghost use Rattle.uuid.specs.Parts.{variant_of};
 ghost use Rattle.uuid.specs.declared.Variant.TheVariants as Variant;
-ghost use Rattle.vbm_ids.specs.Identifier.{identifier_of, counted_in, number_in, is_not_below, is_foreign, has_id};
+ghost use Rattle.vbm_ids.specs.Identifier.{identifier_of, count_of_id, number_in, is_not_below, is_foreign, has_id};
 
 use uuid::Uuid;
 
@@ -75,7 +75,7 @@ pub fn number_of(seed: Uuid, kind: Kind, id: Uuid) -> Option<u64>
 
 // The number that an identifier has, if it is one.
 fn counted(id: Uuid) -> u64
-    ensures value { result ≡ counted_in id }
+    ensures value { result ≡ count_of_id id }
     ensures small { result < NUMBER_LIMIT }
 {
     let b = id.into_bytes();

@@ -9,12 +9,13 @@ use Rattle.vbm_ports.specs.Files.{Files, bytes_of, Sets}
 use Rattle.vbm_ports.specs.Crash.{WriteLeaves, Only, Through, Follows}
 use Rattle.vbm_ports.specs.Disk.{DiskState, Passes}
 use Rattle.vbm_ports.proofs.States.{Passes-refl, Passes-trans}
-use Rattle.vbm_intent.specs.Changes.{name_of, effect, after, of_file, changed, start_of, size_of, Writes, Takes, Touches, IsAllowed, IsRecordable, ApartFrom, IsApart, FitsFile, Fits}
+use Rattle.vbm_intent.specs.Changes.{name_of, effect, file_after, of_file, changed, start_of, size_of, WritesByte, TakesByte, TouchesByte, IsAllowed, IsRecordable, ApartFrom, IsApart, FitsFile, Fits}
 use Rattle.vbm_intent.specs.Record.{IsPlan}
 use Rattle.vbm_intent.specs.declared.change.Change.{Change}
 use Rattle.vbm_intent.specs.declared.change.Change.TheVariants.{Write, Fill, Cut, Remove}
 use Rattle.vbm_intent.specs.Partly.{IsKept, IsWrittenBy, top_of, Stays, IsFilePartly, IsPartly, ChangeLeaves}
 use Rattle.vbm_intent.proofs.FilePartly.{untouched, Arrives, arrives, torn_between, cut_between, removed_between}
+use Rattle.vbm_intent.specs.declared.limits.TheConstants.{LONGEST_FILL}
 
 -- The change is one of them.
 abbrev pub Has : List Change → Change → Type 0
@@ -26,9 +27,9 @@ All_has [] c allowed has = absurd has
 All_has (d ∷ ds) c allowed (inl is) = subst IsAllowed is (All-head IsAllowed d ds allowed)
 All_has (d ∷ ds) c allowed (inr has) = All_has ds c (All-tail IsAllowed d ds allowed) has
 
-has_written : (cs : List Change) (c : Change) (i : ℕ) → Has cs c → Writes c i → IsWrittenBy cs i
+has_written : (cs : List Change) (c : Change) (i : ℕ) → Has cs c → WritesByte c i → IsWrittenBy cs i
 has_written [] c i has w = absurd has
-has_written (d ∷ ds) c i (inl is) w = inl (subst (λ x. Writes x i) (sym is) w)
+has_written (d ∷ ds) c i (inl is) w = inl (subst (λ x. WritesByte x i) (sym is) w)
 has_written (d ∷ ds) c i (inr has) w = inr (has_written ds c i has w)
 
 has_top : (cs : List Change) (c : Change) → Has cs c → start_of c + size_of c ≤ top_of cs
@@ -36,30 +37,30 @@ has_top [] c has = absurd has
 has_top (d ∷ ds) c (inl is) = subst (λ x. start_of x + size_of x ≤ max (start_of d + size_of d) (top_of ds)) is (omega arith)
 has_top (d ∷ ds) c (inr has) = let h = has_top ds c has in omega arith
 
-has_kept : (cs : List Change) (c : Change) (i : ℕ) → Has cs c → IsKept cs i → Takes c i → ⊥
+has_kept : (cs : List Change) (c : Change) (i : ℕ) → Has cs c → IsKept cs i → TakesByte c i → ⊥
 has_kept [] c i has kept takes = absurd has
-has_kept (d ∷ ds) c i (inl is) kept takes = kept.0 (subst (λ x. Takes x i) (sym is) takes)
+has_kept (d ∷ ds) c i (inl is) kept takes = kept.0 (subst (λ x. TakesByte x i) (sym is) takes)
 has_kept (d ∷ ds) c i (inr has) kept takes = has_kept ds c i has kept.1 takes
 
-writes_not_takes : (c : Change) (i : ℕ) → Writes c i → Takes c i → ⊥
+writes_not_takes : (c : Change) (i : ℕ) → WritesByte c i → TakesByte c i → ⊥
 writes_not_takes (Write name at bytes) i w takes = takes
 writes_not_takes (Fill name at len byte) i w takes = takes
 writes_not_takes (Cut name len) i w takes = let l = w.low in let h = w.high in omega arith
 writes_not_takes (Remove name) i w takes = let l = w.low in let h = w.high in omega arith
 
-apart_has : (d : Change) (ds : List Change) (c : Change) (i : ℕ) → ApartFrom d ds → Has ds c → Touches d i → Touches c i → ⊥
+apart_has : (d : Change) (ds : List Change) (c : Change) (i : ℕ) → ApartFrom d ds → Has ds c → TouchesByte d i → TouchesByte c i → ⊥
 apart_has d [] c i apart has td tc = has
-apart_has d (e ∷ es) c i apart (inl is) td tc = apart.0 i td (subst (λ x. Touches x i) (sym is) tc)
+apart_has d (e ∷ es) c i apart (inl is) td tc = apart.0 i td (subst (λ x. TouchesByte x i) (sym is) tc)
 apart_has d (e ∷ es) c i apart (inr has) td tc = apart_has d es c i apart.1 has td tc
 
 -- what one change writes none takes away
-pub writes_kept : (cs : List Change) (c : Change) (i : ℕ) → IsApart cs → Has cs c → Writes c i → IsKept cs i
+pub writes_kept : (cs : List Change) (c : Change) (i : ℕ) → IsApart cs → Has cs c → WritesByte c i → IsKept cs i
 writes_kept [] c i apart has w = absurd has
 writes_kept (d ∷ ds) c i apart (inl is) w =
-    let here : Writes d i = subst (λ x. Writes x i) (sym is) w in
+    let here : WritesByte d i = subst (λ x. WritesByte x i) (sym is) w in
     (writes_not_takes d i here, all_kept d ds i apart.0 here)
   where
-    all_kept : (d : Change) (es : List Change) (i : ℕ) → ApartFrom d es → Writes d i → IsKept es i
+    all_kept : (d : Change) (es : List Change) (i : ℕ) → ApartFrom d es → WritesByte d i → IsKept es i
     all_kept d [] i apart w = tt
     all_kept d (e ∷ es) i apart w = ((λ takes. apart.0 i (inl w) (inr takes)), all_kept d es i apart.1 w)
 writes_kept (d ∷ ds) c i apart (inr has) w = ((λ takes. apart_has d ds c i apart.0 has (inr takes) (inl w)), writes_kept ds c i apart.1 has w)
@@ -123,7 +124,7 @@ torn_partly : (cs : List Change) (files cur old new : Files) (c : Change) (name 
     → IsPlan cs → Has cs c → IsPartly cs files cur → IsPartly cs files old → at ≤ length (bytes_of (cur name)) → WriteLeaves name at n cur old new → IsPartly cs files new
 torn_partly cs files cur old new c name at n named low high some plan has partly_cur partly at_end leaves =
     let of_name : Has (of_file name cs) c = subst (λ m. Has (of_file m cs) c) named (has_of_file cs c has) in
-    let first : Writes c at = record { low = low; high = omega arith } in
+    let first : WritesByte c at = record { low = low; high = omega arith } in
     let kept : IsKept (of_file name cs) at = writes_kept (of_file name cs) c at (plan.apart name) of_name first in
     joined cs files old new name partly leaves.others
     (torn_between (of_file name cs) (files name) at n (cur name) (old name) (new name) (partly_cur name) (partly name) (kept_stays (of_file name cs) at kept) at_end
@@ -152,11 +153,11 @@ change_partly cs files cur old new (Remove name) allowed plan has partly_cur par
     (subst (λ r. IsFilePartly (of_file name cs) (files name) r) (sym sets.here)
     (removed_between (of_file name cs) (files name) (removed_not_stays (of_file name cs) name of_name) (λ i kept. has_kept (of_file name cs) (Remove name) i of_name kept tt)))
 
-pub after-append : (cs ds : List Change) (file : Option (List ℕ)) → after (cs ++ ds) file ≡ after ds (after cs file)
-after-append [] ds file = refl
-after-append (c ∷ cs) ds file = after-append cs ds (effect c file)
+pub file_after-append : (cs ds : List Change) (file : Option (List ℕ)) → file_after (cs ++ ds) file ≡ file_after ds (file_after cs file)
+file_after-append [] ds file = refl
+file_after-append (c ∷ cs) ds file = file_after-append cs ds (effect c file)
 
-fits_next : (pre : List Change) (c : Change) (post : List Change) (file : Option (List ℕ)) → FitsFile (pre ++ c ∷ post) file → start_of c ≤ length (bytes_of (after pre file))
+fits_next : (pre : List Change) (c : Change) (post : List Change) (file : Option (List ℕ)) → FitsFile (pre ++ c ∷ post) file → start_of c ≤ length (bytes_of (file_after pre file))
 fits_next [] c post file fits = fits.0
 fits_next (d ∷ pre) c post file fits = fits_next pre c post (effect d file) fits.1
 
@@ -183,11 +184,11 @@ one_more pre c files cur new is sets = λ i name. at name i
         (λ same.
         subst (λ n. new n ≡ changed (pre ++ c ∷ []) files n) (sym same.1)
         (sets.here ∙ ap (λ (f : Files). effect c (f (name_of c))) is
-        ∙ sym (after-append (of_file (name_of c) pre) (c ∷ []) (files (name_of c)))
-        ∙ ap (λ (l : List Change). after l (files (name_of c))) (ap (λ (l : List Change). of_file (name_of c) pre ++ l) (sym (of_file_yes (name_of c) c [] (named_self c))) ∙ sym (with_it (name_of c)))))
+        ∙ sym (file_after-append (of_file (name_of c) pre) (c ∷ []) (files (name_of c)))
+        ∙ ap (λ (l : List Change). file_after l (files (name_of c))) (ap (λ (l : List Change). of_file (name_of c) pre ++ l) (sym (of_file_yes (name_of c) c [] (named_self c))) ∙ sym (with_it (name_of c)))))
         (λ other.
         sets.others name other.1 ∙ ap (λ (f : Files). f name) is
-        ∙ ap (λ (l : List Change). after l (files name)) (sym (with_it name ∙ ap (λ (l : List Change). of_file name pre ++ l) (of_file_no name c [] (not_named name other.1)) ∙ append-nil (of_file name pre))))
+        ∙ ap (λ (l : List Change). file_after l (files name)) (sym (with_it name ∙ ap (λ (l : List Change). of_file name pre ++ l) (of_file_no name c [] (not_named name other.1)) ∙ append-nil (of_file name pre))))
         (cases_name name (name_of c))
       where
         not_named : (name : List ℕ) → (name ≢ name_of c) → bytes_eq (name_of c) name ≡ false
@@ -206,7 +207,7 @@ all_arrive cs files now plan fits partly =
 -- how many bytes a change of a record writes
 pub size_within : (c : Change) → IsAllowed c → IsRecordable c → size_of c ≤ 2 ^ 32
 size_within (Write name at bytes) allowed short = let h : length bytes < 2 ^ 32 = short in omega arith
-size_within (Fill name at len byte) allowed short = let h : len ≤ 2 ^ 24 = allowed.limits.1 in omega arith
+size_within (Fill name at len byte) allowed short = let h : len ≤ LONGEST_FILL = allowed.limits.1 in omega arith
 size_within (Cut name len) allowed short = omega arith
 size_within (Remove name) allowed short = omega arith
 

@@ -9,7 +9,7 @@ use Rattle.vbm_ports.specs.Files.{Files, bytes_of, put, Sets, IsWritten}
 use Rattle.vbm_ports.specs.Disk.{DiskState, Passes}
 use Rattle.vbm_ports.proofs.States.{Passes-weaker, Passes-trans}
 use Rattle.vbm_intent.specs.declared.change.Change.{Change}
-use Rattle.vbm_intent.specs.Changes.{log_name, name_of, after, of_file, changed, IsAllowed, FitsFile, Fits}
+use Rattle.vbm_intent.specs.Changes.{log_name, name_of, file_after, of_file, changed, IsAllowed, FitsFile, Fits}
 use Rattle.vbm_intent.specs.Record.{IsPlan, IsRecord}
 use Rattle.vbm_intent.specs.Log.{IsOpen, IsShut, IsShutInAll, IsPending, Redo, closed, pending, SameBesidesLog, IsBeforeOrAfter, before, done}
 use Rattle.vbm_intent.specs.Partly.{IsFilePartly, IsPartly, behind_gate, IsGateTorn, IsRecordTorn}
@@ -65,14 +65,14 @@ long_enough cs behind holds = omega (arith, record_long (drop 7 behind) cs holds
 
 pub is_pending : (cs : List Change) (image : Files) (behind : List ℕ) → image log_name ≡ Some (165 ∷ behind) → IsRecord (drop 7 behind) cs → Fits cs image → IsPending image cs
 is_pending cs image behind log holds fits = record {
-  opens = subst IsOpen (sym log) (refl, long_enough cs behind holds);
+  opens = subst IsOpen (sym log) (refl, omega (arith, long_enough cs behind holds));
   recorded = subst (λ f. IsRecord (drop 8 (bytes_of f)) cs) (sym log) holds;
   fits = fits;
 }
 
 module _ (cs : List Change) (plan : IsPlan cs) where
   pub changed_besides : (a b : Files) → SameBesidesLog a b → SameBesidesLog (changed cs a) (changed cs b)
-  changed_besides a b same = λ name other. ap (λ (f : Option (List ℕ)). after (of_file name cs) f) (same name other)
+  changed_besides a b same = λ name other. ap (λ (f : Option (List ℕ)). file_after (of_file name cs) f) (same name other)
 
   pub fits_besides : (a b : Files) → SameBesidesLog a b → Fits cs a → Fits cs b
   fits_besides a b same fits = λ name. ⊎_elim

@@ -6,13 +6,13 @@ use Rattle.vbm_ports.specs.Files.{Files, bytes_of, put}
 use Rattle.vbm_ports.proofs.Puts.{length-put_any}
 use Rattle.vbm_intent.specs.declared.change.Change.{Change}
 use Rattle.vbm_intent.specs.declared.change.Change.TheVariants.{Write, Fill, Cut, Remove}
-use Rattle.vbm_intent.specs.Changes.{name_of, effect, after, of_file, changed, start_of, Writes, IsAllowed, FitsFile, Fits}
+use Rattle.vbm_intent.specs.Changes.{name_of, effect, file_after, of_file, changed, start_of, WritesByte, IsAllowed, FitsFile, Fits}
 use Rattle.vbm_intent.specs.Record.{IsPlan}
 use Rattle.vbm_intent.specs.Partly.{IsKept}
 use Rattle.vbm_intent.proofs.Applying.{Has, writes_kept, cases_name, of_file_yes, of_file-append, has_of_file, has_middle, next_allowed}
 use Rattle.vbm_intent.proofs.Wholes.{of_file_end}
 
-fits_file_end : (made : List Change) (c : Change) (file : Option (List ℕ)) → FitsFile made file → start_of c ≤ length (bytes_of (after made file))
+fits_file_end : (made : List Change) (c : Change) (file : Option (List ℕ)) → FitsFile made file → start_of c ≤ length (bytes_of (file_after made file))
     → FitsFile (made ++ c ∷ []) file
 fits_file_end [] c file fits within = (within, tt)
 fits_file_end (d ∷ made) c file fits within = (fits.0, fits_file_end made c (effect d file) fits.1 within)
@@ -57,14 +57,14 @@ kept_before done c rest cs is plan some =
     (writes_kept (of_file (name_of c) cs) c (start_of c) (plan.apart (name_of c)) (has_of_file cs c has)
     (begins c (next_allowed cs done (c ∷ rest) rest c is refl plan) some)))
   where
-    begins : (c : Change) → IsAllowed c → 0 < start_of c → Writes c (start_of c)
+    begins : (c : Change) → IsAllowed c → 0 < start_of c → WritesByte c (start_of c)
     begins (Write name at bytes) allowed some = let size = allowed.limits.0 in record { low = omega arith; high = omega arith }
     begins (Fill name at len byte) allowed some = let size = allowed.limits.0 in record { low = omega arith; high = omega arith }
     begins (Cut name len) allowed some = absurd (omega arith)
     begins (Remove name) allowed some = absurd (omega arith)
 
 -- a file that reaches a place still does so after changes that leave it
-still_reaches : (cs : List Change) (i : ℕ) (file : Option (List ℕ)) → IsKept cs i → i ≤ length (bytes_of file) → i ≤ length (bytes_of (after cs file))
+still_reaches : (cs : List Change) (i : ℕ) (file : Option (List ℕ)) → IsKept cs i → i ≤ length (bytes_of file) → i ≤ length (bytes_of (file_after cs file))
 still_reaches [] i file kept reaches = reaches
 still_reaches (Write name at bytes ∷ cs) i file kept reaches =
     still_reaches cs i (Some (put at bytes (bytes_of file))) kept.1 (omega (arith, reaches, length-put_any at bytes (bytes_of file)))
@@ -80,6 +80,6 @@ still_reaches (Cut name len ∷ cs) i (Some bytes) kept reaches = still_reaches 
 still_reaches (Remove name ∷ cs) i file kept reaches = absurd (kept.0 tt)
 
 pub begins_within_still : (cs : List Change) (i : ℕ) (file : Option (List ℕ)) → (0 < i → IsKept cs i) → i ≤ length (bytes_of file)
-    → i ≤ length (bytes_of (after cs file))
+    → i ≤ length (bytes_of (file_after cs file))
 begins_within_still cs zero file kept reaches = omega arith
 begins_within_still cs (suc i) file kept reaches = still_reaches cs (suc i) file (kept (omega arith)) reaches

@@ -5,14 +5,15 @@ use Rattle.std.proofs.lemmas.List.{append-nil}
 use Rattle.vbm_ports.specs.Files.{Files, bytes_of}
 use Rattle.vbm_ports.specs.Names.{is_medium_name, is_inner_name, IsStoreName}
 use Rattle.vbm_intent.specs.declared.change.Change.{Change}
-use Rattle.vbm_intent.specs.Changes.{name_of, effect, after, of_file, changed, start_of, IsAllowed, Fits}
+use Rattle.vbm_intent.specs.Changes.{name_of, effect, file_after, of_file, changed, start_of, IsAllowed, Fits}
 use Rattle.vbm_intent.specs.Index.{change_at, changes_at, IsIn, Pairs, IsNameBefore, StandsBefore}
-use Rattle.vbm_intent.proofs.Applying.{cases_name, of_file_yes, of_file_no, of_file-append, after-append, named_self, next_fits}
+use Rattle.vbm_intent.proofs.Applying.{cases_name, of_file_yes, of_file_no, of_file-append, file_after-append, named_self, next_fits}
 use Rattle.vbm_intent.proofs.Fitting.{fits_one_more}
 use Rattle.vbm_intent.proofs.Indexed.{allowed_in}
 use Rattle.vbm_intent.proofs.Names.{not_before_itself, names_before}
 use Rattle.vbm_intent.proofs.Members.{in_back, in_either, pairs_split}
 use Rattle.vbm_intent.proofs.Notes.{changes_at-append}
+use Rattle.vbm_ports.specs.declared.disk.TheConstants.{LONGEST_FILE}
 
 abbrev pub IsNameUpTo : List ℕ → List ℕ → Type 0
 IsNameUpTo first second = (first ≡ second) ⊎ IsNameBefore first second
@@ -23,7 +24,7 @@ pub record FitSoFar (tells : Type 0) (body : List ℕ) (index rest : List (List 
   pub parts : index ≡ done ++ rest
   pub before : (e : List ℕ) → IsIn done e → IsNameUpTo (name_of (change_at body e)) name
   pub ahead : (e : List ℕ) → IsIn rest e → IsNameUpTo name (name_of (change_at body e))
-  pub bound : len ≤ 2 ^ 60
+  pub bound : len ≤ LONGEST_FILE
   pub fits : tells → Fits (changes_at body done) files
   pub long : tells → 0 < length name → length (bytes_of (changed (changes_at body done) files name)) ≡ len
 
@@ -83,7 +84,7 @@ module _ (tells : Type 0) (body : List ℕ) (index rest behind : List (List ℕ)
         let named = hit.1 in
         subst (λ n. length (bytes_of (changed (changes_at body so_far.done) files n)) ≡ len) (sym named) (so_far.long told (subst (λ n. 0 < length n) named some)) ∙ sym (same named)
     | inr miss ↦
-        ap (λ (l : List Change). length (bytes_of (after l (files (name_of here))))) (new_file miss.1) ∙ sym (other miss.1)
+        ap (λ (l : List Change). length (bytes_of (file_after l (files (name_of here))))) (new_file miss.1) ∙ sym (other miss.1)
   ]
 
   pub whole : changes_at body index ≡ changes_at body so_far.done ++ here ∷ changes_at body behind
@@ -94,7 +95,7 @@ module _ (tells : Type 0) (body : List ℕ) (index rest behind : List (List ℕ)
   begins fits = next_fits (changes_at body index) (changes_at body so_far.done) here (changes_at body behind) files whole fits
 
   pub fit_more : (now new : ℕ) → Pairs (StandsBefore body) index → (tells → length (bytes_of (changed (changes_at body so_far.done) files (name_of here))) ≡ now) → start_of here ≤ now
-      → new ≤ 2 ^ 60 → ((file : Option (List ℕ)) → length (bytes_of file) ≡ now → length (bytes_of (effect here file)) ≡ new)
+      → new ≤ LONGEST_FILE → ((file : Option (List ℕ)) → length (bytes_of file) ≡ now → length (bytes_of (effect here file)) ≡ new)
       → FitSoFar tells body index behind (name_of here) new files
   fit_more now new order is_now within bound leaves = record {
     done = so_far.done ++ entry ∷ [];
@@ -111,10 +112,10 @@ module _ (tells : Type 0) (body : List ℕ) (index rest behind : List (List ℕ)
         (fits_one_more (changes_at body so_far.done) here files (so_far.fits told) (omega (arith, is_now told, within)));
     long = λ told some.
         ap (λ (l : List Change). length (bytes_of (changed l files (name_of here)))) one_more
-        ∙ ap (λ (l : List Change). length (bytes_of (after l (files (name_of here)))))
+        ∙ ap (λ (l : List Change). length (bytes_of (file_after l (files (name_of here)))))
         (of_file-append (name_of here) (changes_at body so_far.done) (here ∷ [])
         ∙ ap (λ (l : List Change). of_file (name_of here) (changes_at body so_far.done) ++ l) (of_file_yes (name_of here) here [] (named_self here)))
-        ∙ ap (λ (f : Option (List ℕ)). length (bytes_of f)) (after-append (of_file (name_of here) (changes_at body so_far.done)) (here ∷ []) (files (name_of here)))
+        ∙ ap (λ (f : Option (List ℕ)). length (bytes_of f)) (file_after-append (of_file (name_of here) (changes_at body so_far.done)) (here ∷ []) (files (name_of here)))
         ∙ leaves (changed (changes_at body so_far.done) files (name_of here)) (is_now told);
   }
     where
@@ -152,7 +153,7 @@ module _ (tells : Type 0) (body : List ℕ) (index rest behind : List (List ℕ)
         (λ is. same (named ∙ is))
         (λ differ. other told (λ is. differ (sym named ∙ is)) ∙ (λ i. length (bytes_of (same_files told i (named i)))))
 
-    pub goes_on : (new at : ℕ) → Pairs (StandsBefore body) index → at ≡ start_of c → at ≤ now → new ≤ 2 ^ 60
+    pub goes_on : (new at : ℕ) → Pairs (StandsBefore body) index → at ≡ start_of c → at ≤ now → new ≤ LONGEST_FILE
         → ((file : Option (List ℕ)) → length (bytes_of file) ≡ now → length (bytes_of (effect c file)) ≡ new) → FitSoFar tells body index behind n new files
     goes_on new at order is_at within bound leaves =
         subst (λ m. FitSoFar tells body index behind m new files) (sym named)

@@ -15,6 +15,7 @@ use Rattle.vbm_intent.specs.Partly.{IsPartly, behind_gate, IsGateTorn}
 use Rattle.vbm_intent.proofs.Applying.{all_arrive}
 use Rattle.vbm_intent.proofs.Commits.{shut_closed, besides_sym, changed_besides, fits_besides, log_kept}
 use Rattle.vbm_intent.proofs.Records.{record_long, record_with_rest, record_without_rest}
+use Rattle.vbm_intent.specs.declared.limits.TheConstants.{LONGEST_BODY}
 
 open_shape : (file : Option (List ℕ)) → IsOpen file → file ≡ Some (165 ∷ behind_gate file)
 open_shape None opens = absurd opens
@@ -58,8 +59,8 @@ module _ (file : Option (List ℕ)) (old new : List ℕ) (n : ℕ) (reads : Read
       ∙ get_or_append_left front (drop n old) 0 0 (omega (arith, front_long)) ∙ get_or-take (length old) (bytes_of file) 0 0 (omega arith)
 
   -- what the head of an open log tells
-  pub head_tells : get_or new 0 0 ≡ 165 → IsOpen file × (min (from_le_bytes w32 (take 4 (drop 8 new))) (2 ^ 25) ≡ recorded_size file)
-  head_tells gate = (gate_opens file long (sym same_gate ∙ gate), ap (λ (l : List ℕ). min (from_le_bytes w32 l) (2 ^ 25)) same_word)
+  pub head_tells : get_or new 0 0 ≡ 165 → IsOpen file × (min (from_le_bytes w32 (take 4 (drop 8 new))) LONGEST_BODY ≡ recorded_size file)
+  head_tells gate = (gate_opens file long (sym same_gate ∙ gate), ap (λ (l : List ℕ). min (from_le_bytes w32 l) LONGEST_BODY) same_word)
 
   text_is : take (n - 8) (drop 8 new) ≡ drop 8 front
   text_is = ap (λ (l : List ℕ). take (n - 8) (drop 8 l)) reads.buffer

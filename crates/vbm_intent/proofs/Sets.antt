@@ -8,9 +8,10 @@ use Rattle.std.specs.Int.{from_le_bytes, w32}
 use Rattle.std.specs.Prelude.{unwrap_or}
 use Rattle.vbm_intent.specs.declared.change.Change.{Change}
 use Rattle.vbm_intent.specs.declared.change.Change.TheVariants.{Write, Fill, Cut, Remove}
-use Rattle.vbm_intent.specs.Changes.{name_of, of_file, Touches, IsAllowed, ApartFrom, IsApart}
+use Rattle.vbm_intent.specs.Changes.{name_of, of_file, TouchesByte, IsAllowed, ApartFrom, IsApart}
 use Rattle.vbm_intent.specs.Record.{body_length, count_of, changes_in, IsPlan}
 use Rattle.vbm_intent.specs.Plan.{record_of, changes_of_record, plan_of, with_bytes, set_bytes, HasBytesAt, IsPlaceOf, IsWholeRecord}
+use Rattle.vbm_intent.specs.declared.limits.TheConstants.{LONGEST_BODY, MOST_CHANGES}
 
 pub no_fewer : (k from n : ℕ) (cs : List Change) → HasBytesAt k from n cs → HasBytesAt k 0 0 cs
 no_fewer k from n [] has = has
@@ -38,7 +39,7 @@ module _ (name : List ℕ) (at : ℕ) (all bytes : List ℕ) (from : ℕ) where
   has_here n (c ∷ before) behind has = has_here n before behind has
 
 -- a change that touches no more than another of the same file
-module _ (c d : Change) (less : (i : ℕ) → Touches d i → Touches c i) where
+module _ (c d : Change) (less : (i : ℕ) → TouchesByte d i → TouchesByte c i) where
   swap_apart_from : (e : Change) (xs ys : List Change) → ApartFrom e (xs ++ c ∷ ys) → ApartFrom e (xs ++ d ∷ ys)
   swap_apart_from e [] ys apart = (λ i t u. apart.0 i t (less i u), apart.1)
   swap_apart_from e (x ∷ xs) ys apart = (apart.0, swap_apart_from e xs ys apart.1)
@@ -72,7 +73,7 @@ module _ (c d : Change) (less : (i : ℕ) → Touches d i → Touches c i) where
 
 -- a write with as many other bytes
 module _ (name : List ℕ) (at : ℕ) (old new : List ℕ) (long : length new ≡ length old) where
-  touches_less : (i : ℕ) → Touches (Write name at new) i → Touches (Write name at old) i
+  touches_less : (i : ℕ) → TouchesByte (Write name at new) i → TouchesByte (Write name at old) i
   touches_less i (inl w) = inl (record { low = w.low; high = omega (arith, w.high, long) })
   touches_less i (inr t) = inr t
 
@@ -178,8 +179,8 @@ module _ (text : List ℕ) (cs : List Change) (k from place : ℕ) (bytes : List
       plan = record {
         changes = ap changes_in new_text ∙ p.other other other_long;
         plan = other_plan p.name p.at p.bytes other other_long p.before p.behind (subst IsPlan p.is_changes is.plan.plan);
-        size = subst (λ n. n ≤ 2 ^ 25) (sym new_size) is.plan.size;
-        count = subst (λ n. n ≤ 2 ^ 16) (sym new_count) is.plan.count;
+        size = subst (λ n. n ≤ LONGEST_BODY) (sym new_size) is.plan.size;
+        count = subst (λ n. n ≤ MOST_CHANGES) (sym new_count) is.plan.count;
       };
       whole = omega (arith, new_long, new_size, is.whole);
     })

@@ -1,13 +1,15 @@
 -- What changes make of files.
-use Rattle.std.specs.Prelude.{◌≢◌, ◌⊎◌, ℕ, ◌+◌, ◌^◌, ◌<◌, ◌≤◌, List, [], ◌∷◌, length, replicate, filter, Option, Some, None, codes}
+use Rattle.std.specs.Prelude.{◌≢◌, ◌⊎◌, ℕ, ◌+◌, ◌^◌, ◌<◌, ◌≤◌, List, [], ◌∷◌, length, replicate, filter, Option, Some, None}
 use Rattle.std.specs.Str.{bytes_eq}
 use Rattle.vbm_ports.specs.Files.{Files, bytes_of, put, cut_to}
 use Rattle.vbm_ports.specs.Names.{IsStoreName}
 use Rattle.vbm_intent.specs.declared.change.Change.{Change}
 use Rattle.vbm_intent.specs.declared.change.Change.TheVariants.{Write, Fill, Cut, Remove}
+use Rattle.vbm_ports.specs.declared.names.TheConstants.{LOG_NAME}
+use Rattle.vbm_intent.specs.declared.limits.TheConstants.{FARTHEST, LONGEST_FILL}
 
 abbrev pub log_name : List ℕ
-log_name = codes "intent.vbm"
+log_name = LOG_NAME.now
 
 abbrev pub name_of : Change → List ℕ
 name_of (Write name at bytes) = name
@@ -23,9 +25,9 @@ effect (Cut name len) file = cut_to len file
 effect (Remove name) file = None
 
 -- changes of one file, one after the other
-abbrev pub after : List Change → Option (List ℕ) → Option (List ℕ)
-after [] file = file
-after (c ∷ cs) file = after cs (effect c file)
+abbrev pub file_after : List Change → Option (List ℕ) → Option (List ℕ)
+file_after [] file = file
+file_after (c ∷ cs) file = file_after cs (effect c file)
 
 -- those of one file, in order
 abbrev pub of_file : List ℕ → List Change → List Change
@@ -33,7 +35,7 @@ of_file name cs = filter (λ c. bytes_eq (name_of c) name) cs
 
 -- the files with all the changes
 abbrev pub changed : List Change → Files → Files
-changed cs files = λ name. after (of_file name cs) (files name)
+changed cs files = λ name. file_after (of_file name cs) (files name)
 
 -- the place from which a change writes
 abbrev pub start_of : Change → ℕ
@@ -49,26 +51,26 @@ size_of (Fill name at len byte) = len
 size_of (Cut name len) = 0
 size_of (Remove name) = 0
 
-pub record Writes (c : Change) (i : ℕ) : Type 0 where
+pub record WritesByte (c : Change) (i : ℕ) : Type 0 where
   pub low : start_of c ≤ i
   pub high : i < start_of c + size_of c
 
 -- the change takes this byte away
-abbrev pub Takes : Change → ℕ → Type 0
-Takes (Write name at bytes) i = ⊥
-Takes (Fill name at len byte) i = ⊥
-Takes (Cut name len) i = len ≤ i
-Takes (Remove name) i = Unit {0}
+abbrev pub TakesByte : Change → ℕ → Type 0
+TakesByte (Write name at bytes) i = ⊥
+TakesByte (Fill name at len byte) i = ⊥
+TakesByte (Cut name len) i = len ≤ i
+TakesByte (Remove name) i = Unit {0}
 
-abbrev pub Touches : Change → ℕ → Type 0
-Touches c i = Writes c i ⊎ Takes c i
+abbrev pub TouchesByte : Change → ℕ → Type 0
+TouchesByte c i = WritesByte c i ⊎ TakesByte c i
 
--- The limits of one change: a write or a fill has a byte at least, a fill 2^24 bytes at most, and places and lengths are at most
--- 2^53.
+-- The limits of one change: a write or a fill has a byte at least, a fill LONGEST_FILL bytes at most, and places and lengths
+-- are at most FARTHEST.
 abbrev pub IsWithinLimits : Change → Type 0
-IsWithinLimits (Write name at bytes) = (0 < length bytes) × (at ≤ 2 ^ 53)
-IsWithinLimits (Fill name at len byte) = (0 < len) × (len ≤ 2 ^ 24) × (at ≤ 2 ^ 53)
-IsWithinLimits (Cut name len) = len ≤ 2 ^ 53
+IsWithinLimits (Write name at bytes) = (0 < length bytes) × (at ≤ FARTHEST)
+IsWithinLimits (Fill name at len byte) = (0 < len) × (len ≤ LONGEST_FILL) × (at ≤ FARTHEST)
+IsWithinLimits (Cut name len) = len ≤ FARTHEST
 IsWithinLimits (Remove name) = Unit {0}
 
 -- The length of a write's bytes is a u32 in a record.
@@ -87,7 +89,7 @@ pub record IsAllowed (c : Change) : Type 0 where
 -- two changes of one file that touch no byte in common
 abbrev pub ApartFrom : Change → List Change → Type 0
 ApartFrom c [] = Unit {0}
-ApartFrom c (d ∷ ds) = ((i : ℕ) → Touches c i → Touches d i → ⊥) × ApartFrom c ds
+ApartFrom c (d ∷ ds) = ((i : ℕ) → TouchesByte c i → TouchesByte d i → ⊥) × ApartFrom c ds
 
 -- No byte of the file is touched by two of its changes. So a range ends at or below the cut of its file, a file has one cut at
 -- most, and a removed file has no other change.

@@ -1,16 +1,17 @@
 -- The log `intent.vbm`: a gate byte, 7 unread bytes, and a record. Redo applies the record of a log whose gate is open.
-use Rattle.std.specs.Prelude.{◌≡◌, ◌≢◌, ℕ, ◌^◌, ◌<◌, ◌≤◌, min, List, [], ◌∷◌, ◌++◌, length, take, drop, replicate, Option, Some, None}
+use Rattle.std.specs.Prelude.{◌≡◌, ◌≢◌, ℕ, ◌<◌, ◌≤◌, min, List, [], ◌∷◌, ◌++◌, length, take, drop, replicate, Option, Some, None}
 use Rattle.std.proofs.Common.{sym, ◌∙◌, ap}
 use Rattle.vbm_ports.specs.Files.{Files, bytes_of, put}
 use Rattle.vbm_intent.specs.declared.change.Change.{Change}
 use Rattle.vbm_intent.specs.Changes.{log_name, changed, Fits}
 use Rattle.vbm_intent.specs.Record.{body_length, IsRecord}
+use Rattle.vbm_intent.specs.declared.limits.TheConstants.{LONGEST_BODY, LOG_HEAD_LEN}
 
--- The gate is open: the log has 16 bytes at least, and the first is 0xA5.
+-- The gate is open: the log has LOG_HEAD_LEN bytes at least, and the first is 0xA5.
 abbrev pub IsOpen : Option (List ℕ) → Type 0
 IsOpen None = ⊥
 IsOpen (Some []) = ⊥
-IsOpen (Some (gate ∷ behind)) = (gate ≡ 165) × (15 ≤ length behind)
+IsOpen (Some (gate ∷ behind)) = (gate ≡ 165) × (LOG_HEAD_LEN ≤ length (gate ∷ behind))
 
 -- The log is shut: it has a gate byte other than 0xA5. So a write behind that byte, torn or not, leaves it closed.
 abbrev pub IsShut : Option (List ℕ) → Type 0
@@ -22,9 +23,9 @@ IsShut (Some (gate ∷ behind)) = gate ≢ 165
 abbrev pub IsShutInAll : (Files → Type 0) → Type 0
 IsShutInAll images = (image : Files) → images image → IsShut (image log_name)
 
--- the length of the record's body as an open log tells it, at most 2^25
+-- the length of the record's body as an open log tells it, at most LONGEST_BODY
 abbrev pub recorded_size : Option (List ℕ) → ℕ
-recorded_size file = min (body_length (drop 8 (bytes_of file))) (2 ^ 25)
+recorded_size file = min (body_length (drop 8 (bytes_of file))) LONGEST_BODY
 
 -- the seven bytes behind the gate that nothing reads; those that are missing are 0
 abbrev pub unread_of : Option (List ℕ) → List ℕ
@@ -54,10 +55,10 @@ pub record IsBadLog (files : Files) : Type 0 where
   pub opens : IsOpen (files log_name)
   pub none : (cs : List Change) → IsPending files cs → ⊥
 
--- The log's file once it is started: as before, or, where it was absent or shorter than 16 bytes, with a first byte of 0.
+-- The log's file once it is started: as before, or, where it was absent or shorter than LOG_HEAD_LEN bytes, with a first byte of 0.
 pub data IsStarted (old new : Option (List ℕ)) : Type 0 where
-  kept : 16 ≤ length (bytes_of old) → new ≡ old → IsStarted old new
-  begun : length (bytes_of old) < 16 → new ≡ Some (put 0 (0 ∷ []) (bytes_of old)) → IsStarted old new
+  kept : LOG_HEAD_LEN ≤ length (bytes_of old) → new ≡ old → IsStarted old new
+  begun : length (bytes_of old) < LOG_HEAD_LEN → new ≡ Some (put 0 (0 ∷ []) (bytes_of old)) → IsStarted old new
 
 -- The log's file after a commit: the gate byte is 0, and the seven bytes behind it are as before; those that were missing are 0.
 abbrev pub IsCommitted : Option (List ℕ) → Option (List ℕ) → Type 0

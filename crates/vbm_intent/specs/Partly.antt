@@ -5,7 +5,7 @@ use Rattle.vbm_ports.specs.Crash.{WriteLeaves, CutLeaves, RemoveLeaves, Through,
 use Rattle.vbm_ports.specs.Disk.{DiskState, Passes}
 use Rattle.vbm_intent.specs.declared.change.Change.{Change}
 use Rattle.vbm_intent.specs.declared.change.Change.TheVariants.{Write, Fill, Cut, Remove}
-use Rattle.vbm_intent.specs.Changes.{log_name, of_file, start_of, size_of, Writes, Takes}
+use Rattle.vbm_intent.specs.Changes.{log_name, of_file, start_of, size_of, WritesByte, TakesByte}
 use Rattle.vbm_intent.specs.Log.{IsShut, SameBesidesLog}
 
 -- there is a file
@@ -16,12 +16,12 @@ Exists (Some bytes) = Unit {0}
 -- no change takes this byte away
 abbrev pub IsKept : List Change → ℕ → Type 0
 IsKept [] i = Unit {0}
-IsKept (c ∷ cs) i = (Takes c i → ⊥) × IsKept cs i
+IsKept (c ∷ cs) i = (TakesByte c i → ⊥) × IsKept cs i
 
 -- a change writes this byte
 abbrev pub IsWrittenBy : List Change → ℕ → Type 0
 IsWrittenBy [] i = ⊥
-IsWrittenBy (c ∷ cs) i = Writes c i ⊎ IsWrittenBy cs i
+IsWrittenBy (c ∷ cs) i = WritesByte c i ⊎ IsWrittenBy cs i
 
 -- the end of what the changes write
 abbrev pub top_of : List Change → ℕ

@@ -11,11 +11,11 @@ pub record PlanState : Type 0 where
   pub spare : ℕ
 
 -- a change as a record has it
-abbrev pub text_of : Change → List ℕ
-text_of (Write name at bytes) = 1 ∷ length name ∷ name ++ (to_le_bytes w64 at ++ (to_le_bytes w32 (length bytes) ++ bytes))
-text_of (Fill name at len byte) = 2 ∷ length name ∷ name ++ (to_le_bytes w64 at ++ (to_le_bytes w64 len ++ byte ∷ []))
-text_of (Cut name len) = 3 ∷ length name ∷ name ++ to_le_bytes w64 len
-text_of (Remove name) = 4 ∷ length name ∷ name
+abbrev pub change_bytes : Change → List ℕ
+change_bytes (Write name at bytes) = 1 ∷ length name ∷ name ++ (to_le_bytes w64 at ++ (to_le_bytes w32 (length bytes) ++ bytes))
+change_bytes (Fill name at len byte) = 2 ∷ length name ∷ name ++ (to_le_bytes w64 at ++ (to_le_bytes w64 len ++ byte ∷ []))
+change_bytes (Cut name len) = 3 ∷ length name ∷ name ++ to_le_bytes w64 len
+change_bytes (Remove name) = 4 ∷ length name ∷ name
 
 -- how many bytes that is
 abbrev pub text_size : Change → ℕ
@@ -48,7 +48,7 @@ spare_in capacity bytes = capacity - length (record_of bytes)
 
 -- a record with its head, and one change more at its end
 abbrev pub with_change : List ℕ → Change → List ℕ
-with_change text c = to_le_bytes w32 ((length text - 8) + text_size c) ++ (to_le_bytes w32 (count_of text + 1) ++ (drop 8 text ++ text_of c))
+with_change text c = to_le_bytes w32 ((length text - 8) + text_size c) ++ (to_le_bytes w32 (count_of text + 1) ++ (drop 8 text ++ change_bytes c))
 
 -- a record that ends with its body
 pub record IsWholeRecord (text : List ℕ) (cs : List Change) : Type 0 where

@@ -1,11 +1,12 @@
 -- The record of a plan, in bytes: the body's length n (u32), the count of changes (u32), and the n bytes of the changes. Numbers
 -- are little-endian. A change is its kind byte, the length byte of its name, the name, and what its kind has:
 --   1 write: at u64, len u32, len bytes; 2 fill: at u64, len u64, byte; 3 cut: len u64; 4 remove: nothing.
-use Rattle.std.specs.Prelude.{◌≡◌, ℕ, ◌+◌, ◌≤◌, ◌^◌, ◌==◌, nat_le, cond, zero, suc, List, [], ◌∷◌, length, take, drop, Option, Some, None, option_and_then, All}
+use Rattle.std.specs.Prelude.{◌≡◌, ℕ, ◌+◌, ◌≤◌, ◌==◌, nat_le, cond, zero, suc, List, [], ◌∷◌, length, take, drop, Option, Some, None, option_and_then, All}
 use Rattle.std.specs.Int.{from_le_bytes, w32, w64}
 use Rattle.vbm_intent.specs.declared.change.Change.{Change}
 use Rattle.vbm_intent.specs.declared.change.Change.TheVariants.{Write, Fill, Cut, Remove}
 use Rattle.vbm_intent.specs.Changes.{IsAllowed, IsApart, of_file}
+use Rattle.vbm_intent.specs.declared.limits.TheConstants.{LONGEST_BODY, MOST_CHANGES}
 
 -- the first n bytes, and those behind them
 abbrev pub split_off : ℕ → List ℕ → Option (List ℕ × List ℕ)
@@ -59,9 +60,9 @@ pub record IsPlan (cs : List Change) : Type 0 where
   pub allowed : All IsAllowed cs
   pub apart : (name : List ℕ) → IsApart (of_file name cs)
 
--- a record of these changes: its body has 2^25 bytes at most, and 65536 changes at most
+-- a record of these changes: its body has LONGEST_BODY bytes at most, and MOST_CHANGES changes at most
 pub record IsRecord (text : List ℕ) (cs : List Change) : Type 0 where
   pub changes : changes_in text ≡ Some cs
   pub plan : IsPlan cs
-  pub size : body_length text ≤ 2 ^ 25
-  pub count : count_of text ≤ 2 ^ 16
+  pub size : body_length text ≤ LONGEST_BODY
+  pub count : count_of text ≤ MOST_CHANGES

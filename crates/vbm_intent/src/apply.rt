@@ -10,6 +10,7 @@ ghost use Rattle.vbm_intent.specs.Changes.{name_of, start_of, size_of, effect, c
 ghost use Rattle.vbm_intent.specs.Record.{IsPlan};
 ghost use Rattle.vbm_intent.specs.Pieces.{change_in};
 ghost use Rattle.vbm_intent.specs.Partly.{IsFilled, MayTear, PassesTorn, IsPartly, ChangeLeaves};
+ghost use Rattle.vbm_ports.specs.declared.disk.TheConstants.{LONGEST_FILE};
 
 use crate::record::{Changes, Piece};
 use vbm_ports::{Disk, Failed};
@@ -21,7 +22,7 @@ const PIECE: usize = 65536;
 fn fill<D: Disk>(disk: &mut D, name: &[u8], at: u64, len: u64, byte: u8) -> Result<(), Failed>
     requires store { IsStoreName name.now }
     requires some { 0 < len }
-    requires room { at + len ≤ 2 ^ 60 }
+    requires room { at + len ≤ LONGEST_FILE }
     requires fits { D.tells → at ≤ length (bytes_of ((D.state disk.old).files name.now)) }
     ensures ok { D.tells → OnOk result (IsFilled name.now at len byte (D.state disk.old) (D.state disk.new)) }
     ensures images { D.tells → MayTear name.now at len (D.state disk.old) (D.state disk.new) }
@@ -40,7 +41,7 @@ fn fill<D: Disk>(disk: &mut D, name: &[u8], at: u64, len: u64, byte: u8) -> Resu
 fn fill_zeros<D: Disk>(disk: &mut D, name: &[u8], at: u64, len: u64) -> Result<(), Failed>
     requires store { IsStoreName name.now }
     requires some { 0 < len }
-    requires room { at + len ≤ 2 ^ 60 }
+    requires room { at + len ≤ LONGEST_FILE }
     requires fits { D.tells → at ≤ length (bytes_of ((D.state disk.old).files name.now)) }
     ensures ok { D.tells → OnOk result (IsFilled name.now at len 0 (D.state disk.old) (D.state disk.new)) }
     ensures images { D.tells → MayTear name.now at len (D.state disk.old) (D.state disk.new) }
@@ -63,7 +64,7 @@ fn fill_to_end<D: Disk>(
 ) -> Result<(), Failed>
     requires store { IsStoreName name.now }
     requires some { 0 < len }
-    requires room { at + len ≤ 2 ^ 60 }
+    requires room { at + len ≤ LONGEST_FILE }
     requires fits { D.tells → at ≤ length (bytes_of ((D.state disk.old).files name.now)) }
     requires end { D.tells → end ≡ length (bytes_of ((D.state disk.old).files name.now)) }
     ensures ok { D.tells → OnOk result (IsFilled name.now at len 0 (D.state disk.old) (D.state disk.new)) }
@@ -87,7 +88,7 @@ fn fill_to_end<D: Disk>(
 fn write_last_zero<D: Disk>(disk: &mut D, name: &[u8], end: u64, n: u64) -> Result<(), Failed>
     requires store { IsStoreName name.now }
     requires some { 0 < n }
-    requires room { end + n ≤ 2 ^ 60 }
+    requires room { end + n ≤ LONGEST_FILE }
     requires end { D.tells → length (bytes_of ((D.state disk.old).files name.now)) ≡ end }
     ensures ok { D.tells → OnOk result (IsFilled name.now end n 0 (D.state disk.old) (D.state disk.new)) }
     ensures images { D.tells → MayTear name.now end n (D.state disk.old) (D.state disk.new) }
@@ -109,7 +110,7 @@ fn fill_pieces<D: Disk>(
 ) -> Result<(), Failed>
     requires store { IsStoreName name.now }
     requires some { 0 < len }
-    requires room { at + len ≤ 2 ^ 60 }
+    requires room { at + len ≤ LONGEST_FILE }
     requires fits { D.tells → at ≤ length (bytes_of ((D.state disk.old).files name.now)) }
     ensures ok { D.tells → OnOk result (IsFilled name.now at len byte (D.state disk.old) (D.state disk.new)) }
     ensures images { D.tells → MayTear name.now at len (D.state disk.old) (D.state disk.new) }
@@ -127,7 +128,7 @@ fn fill_pieces<D: Disk>(
     Ok(())
 }
 
-/// Writes a byte n times, at most 65536.
+/// Writes a byte n times, at most [`PIECE`].
 fn write_copies<D: Disk>(
     disk: &mut D,
     name: &[u8],
@@ -137,8 +138,8 @@ fn write_copies<D: Disk>(
 ) -> Result<(), Failed>
     requires store { IsStoreName name.now }
     requires some { 0 < n }
-    requires short { n ≤ 65536 }
-    requires room { at + n ≤ 2 ^ 60 }
+    requires short { n ≤ PIECE }
+    requires room { at + n ≤ LONGEST_FILE }
     ensures ok { D.tells → OnOk result (IsFilled name.now at n byte (D.state disk.old) (D.state disk.new)) }
     ensures images { D.tells → MayTear name.now at n (D.state disk.old) (D.state disk.new) }
     ensures time { Passes (D.state disk.old) (D.state disk.new) (D.state disk.new).may_leave }

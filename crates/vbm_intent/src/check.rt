@@ -5,26 +5,18 @@ ghost use Rattle.vbm_ports.specs.Files.{bytes_of};
 ghost use Rattle.vbm_ports.specs.Counts.{Rose};
 ghost use Rattle.vbm_ports.specs.Disk.{OnlyReads};
 ghost use Rattle.vbm_intent.specs.declared.change.Change.{Change};
-ghost use Rattle.vbm_intent.specs.Changes.{name_of, after, of_file, changed, start_of, IsWithinLimits, IsRecordable, IsAllowed, ApartFrom, IsApart, Fits};
+ghost use Rattle.vbm_intent.specs.Changes.{name_of, file_after, of_file, changed, start_of, IsWithinLimits, IsRecordable, IsAllowed, ApartFrom, IsApart, Fits};
 ghost use Rattle.vbm_intent.specs.Record.{changes_of, IsPlan, IsRecord};
 ghost use Rattle.vbm_intent.specs.Pieces.{change_in};
 ghost use Rattle.vbm_intent.specs.Partly.{IsKept};
 ghost use Rattle.vbm_intent.specs.Check.{IsRecordOfAllowed};
+ghost use Rattle.vbm_ports.specs.declared.disk.TheConstants.{LONGEST_FILE};
 
 use crate::index::{apart_by_index, fit_by_index};
-use crate::log::NAME;
-use crate::record::{Changes, LONGEST_BODY, Piece, first_piece, u32_at};
+use crate::limits::{FARTHEST, LONGEST_BODY, LONGEST_FILL, MOST_CHANGES};
+use crate::record::{Changes, Piece, first_piece, u32_at};
 use crate::span::{are_apart, length_with, start};
-use vbm_ports::{Disk, Failed, names_store_file};
-
-/// No write begins further on, and no cut leaves more bytes.
-const FARTHEST: u64 = 1 << 53;
-
-/// No fill has more bytes.
-const LONGEST_FILL: u64 = 1 << 24;
-
-/// No record has more changes.
-const MOST_CHANGES: u32 = 1 << 16;
+use vbm_ports::{Disk, Failed, LOG_NAME, names_store_file};
 
 fn is_within_limits(piece: &Piece) -> bool
     ensures { IsTrue result ↔ IsWithinLimits (change_in piece.now) }
@@ -46,7 +38,7 @@ fn is_allowed(piece: &Piece) -> bool
     ensures { IsTrue result ↔ IsAllowed (change_in piece.now) }
 {
     let name = piece.name();
-    names_store_file(name) && name != NAME && is_within_limits(piece)
+    names_store_file(name) && name != LOG_NAME && is_within_limits(piece)
 }
 
 /// Whether so many changes fill the bytes, all of them allowed.
@@ -134,9 +126,9 @@ fn planned<'a>(text: &'a [u8], room: &mut [u8]) -> Option<Changes<'a>>
 /// The length that the first of some changes leave a file of this name and length.
 fn length_after(name: &[u8], changes: Changes, made: u32, len: u64) -> u64
     requires allowed { All IsAllowed changes }
-    requires bound { len ≤ 2 ^ 60 }
+    requires bound { len ≤ LONGEST_FILE }
     ensures { (file : Option (List ℕ)) → length (bytes_of file) ≡ len
-        → length (bytes_of (after (of_file name.now (take made changes.entry)) file)) ≡ result }
+        → length (bytes_of (file_after (of_file name.now (take made changes.entry)) file)) ≡ result }
 {
     let mut rest = changes;
     let mut now = len;
@@ -155,10 +147,10 @@ fn length_after(name: &[u8], changes: Changes, made: u32, len: u64) -> u64
 fn length_if_named(name: &[u8], piece: &Piece, len: u64) -> u64
     requires allowed { IsAllowed (change_in piece.now) }
     requires short { IsRecordable (change_in piece.now) }
-    requires bound { len ≤ 2 ^ 60 }
+    requires bound { len ≤ LONGEST_FILE }
     ensures length { (file : Option (List ℕ)) → length (bytes_of file) ≡ len
-        → length (bytes_of (after (of_file name.now (change_in piece.now ∷ [])) file)) ≡ result }
-    ensures bound { result ≤ 2 ^ 60 }
+        → length (bytes_of (file_after (of_file name.now (change_in piece.now ∷ [])) file)) ≡ result }
+    ensures bound { result ≤ LONGEST_FILE }
 {
     if piece.name() != name {
         return len;

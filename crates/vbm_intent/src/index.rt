@@ -10,14 +10,16 @@ ghost use Rattle.vbm_intent.specs.Record.{changes_of};
 ghost use Rattle.vbm_intent.specs.Pieces.{change_in};
 ghost use Rattle.vbm_intent.specs.Check.{touched_from};
 ghost use Rattle.vbm_intent.specs.Index.{place_of, change_at, changes_at, Pairs, IsRising, AreApartIn, StandsBefore};
+ghost use Rattle.vbm_ports.specs.declared.disk.TheConstants.{LONGEST_FILE};
 
+use crate::limits::MOST_CHANGES;
 use crate::record::{Changes, Piece, first_piece};
 use crate::span::{are_apart, comes_before, length_with, start};
 use std::cmp::Ordering;
 use vbm_ports::{Disk, Failed};
 
-/// How many bytes behind a record serve `redo` as room for an index of the changes, 4 for each of 65536.
-pub const INDEX_ROOM: u32 = 1 << 18;
+/// How many bytes behind a record serve `redo` as room for an index of the changes, 4 for each change.
+pub const INDEX_ROOM: u32 = 4 * MOST_CHANGES;
 
 /// The place of a change in the body.
 fn place(entry: &[u8; 4]) -> u32
@@ -170,11 +172,11 @@ fn all_stand_before(body: &[u8], index: &[[u8; 4]]) -> bool
 /// The length of a file: `len` if it is the one before, else what the disk tells.
 fn length_of<D: Disk>(disk: &mut D, name: &[u8], before: &[u8], len: u64) -> Result<u64, Failed>
     requires store { IsStoreName name.now }
-    requires bound { len ≤ 2 ^ 60 }
+    requires bound { len ≤ LONGEST_FILE }
     ensures same { name.now ≡ before.now → IfOk result (λ now. now ≡ len) }
     ensures other { D.tells → (name.now ≡ before.now → ⊥)
         → IfOk result (λ now. now ≡ length (bytes_of ((D.state disk.old).files name.now))) }
-    ensures bound { IfOk result (λ now. now ≤ 2 ^ 60) }
+    ensures bound { IfOk result (λ now. now ≤ LONGEST_FILE) }
     ensures reads { OnlyReads D.tells (D.state disk.old) (D.state disk.new) }
     ensures cause { OnErr result (Rose (D.state disk.old).faults (D.state disk.new).faults) }
     ensures no_fault { OnOk result ((D.state disk.new).faults ≡ (D.state disk.old).faults) }

@@ -5,6 +5,7 @@ mod apply;
 mod change;
 mod check;
 mod index;
+mod limits;
 mod log;
 mod plan;
 mod record;
@@ -13,6 +14,7 @@ mod span;
 
 pub use change::Change;
 pub use index::INDEX_ROOM;
+pub use limits::{FARTHEST, LOG_HEAD_LEN, LONGEST_BODY, LONGEST_FILL, MOST_CHANGES};
 pub use log::Log;
 pub use plan::Plan;
 pub use recovery::{Redone, record_size, redo};

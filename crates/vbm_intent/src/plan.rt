@@ -6,7 +6,8 @@ ghost use Rattle.vbm_intent.specs.Changes.{name_of, of_file, IsAllowed, IsApart,
 ghost use Rattle.vbm_intent.specs.Record.{IsRecord, IsPlan, count_of};
 ghost use Rattle.vbm_intent.specs.Pieces.{change_in};
 ghost use Rattle.vbm_intent.specs.declared.change.Change.TheVariants.{Write};
-ghost use Rattle.vbm_intent.specs.Plan.{text_of, text_size, body_size, record_of, changes_of_record, spare_in, with_change, set_bytes, HasBytesAt, IsPlaceOf, IsWholeRecord};
+ghost use Rattle.vbm_intent.specs.Plan.{change_bytes, text_size, body_size, record_of, changes_of_record, spare_in, with_change, set_bytes, HasBytesAt, IsPlaceOf, IsWholeRecord};
+ghost use Rattle.vbm_intent.specs.declared.limits.TheConstants.{LONGEST_BODY, MOST_CHANGES};
 
 use crate::Change;
 use crate::record::{Changes, Piece, first_piece, u32_at};
@@ -47,8 +48,8 @@ impl Plan {
     pub fn push(&mut self, change: Change) -> Result<(), NoMemory>
         requires allowed { IsAllowed change }
         requires apart { IsApart (of_file (name_of change) (self.old.changes ++ change ∷ [])) }
-        requires small { body_size self.old.changes + text_size change ≤ 2 ^ 25 }
-        requires few { length self.old.changes < 2 ^ 16 }
+        requires small { body_size self.old.changes + text_size change ≤ LONGEST_BODY }
+        requires few { length self.old.changes < MOST_CHANGES }
         ensures ok { OnOk result (self.new.changes ≡ self.old.changes ++ change ∷ []) }
         ensures err { OnErr result (self.new ≡ self.old) }
         ensures full { OnErr result (self.old.spare < text_size change) }
@@ -65,8 +66,8 @@ impl Plan {
         requires allowed { IsAllowed (Write name.now at bytes.now) }
         requires recordable { IsRecordable (Write name.now at bytes.now) }
         requires apart { IsApart (of_file name.now (self.old.changes ++ Write name.now at bytes.now ∷ [])) }
-        requires small { body_size self.old.changes + text_size (Write name.now at bytes.now) ≤ 2 ^ 25 }
-        requires few { length self.old.changes < 2 ^ 16 }
+        requires small { body_size self.old.changes + text_size (Write name.now at bytes.now) ≤ LONGEST_BODY }
+        requires few { length self.old.changes < MOST_CHANGES }
         requires room { text_size (Write name.now at bytes.now) ≤ self.old.spare }
         ensures changes { self.new.changes ≡ self.old.changes ++ Write name.now at bytes.now ∷ [] }
         ensures spare { self.old.spare ≤ self.new.spare + text_size (Write name.now at bytes.now) }
@@ -113,7 +114,7 @@ impl Plan {
     /// Lends the record.
     pub(crate) fn text(&self) -> &[u8]
         ensures record { IsRecord result.now self.now.changes }
-        ensures short { length result.now ≤ 2 ^ 25 + 8 }
+        ensures short { length result.now ≤ LONGEST_BODY + 8 }
     {
         record_text(&self.text)
     }
@@ -138,7 +139,7 @@ fn record_text(text: &Vec<u8>) -> &[u8]
 
 // How many bytes a change has in a record.
 fn size_of_text(piece: &Piece) -> usize
-    requires { text_size (change_in piece.now) ≤ 2 ^ 25 }
+    requires { text_size (change_in piece.now) ≤ LONGEST_BODY }
     ensures { result ≡ text_size (change_in piece.now) }
 {
     match *piece {
@@ -192,7 +193,7 @@ fn put_change(text: &mut Vec<u8>, piece: &Piece)
     requires short { length (name_of (change_in piece.now)) < 256 }
     requires recordable { IsRecordable (change_in piece.now) }
     requires room { length text.old.items + text_size (change_in piece.now) ≤ vec_capacity text.old }
-    ensures items { text.new.items ≡ text.old.items ++ text_of (change_in piece.now) }
+    ensures items { text.new.items ≡ text.old.items ++ change_bytes (change_in piece.now) }
     ensures capacity { vec_capacity text.old ≤ vec_capacity text.new }
 {
     match *piece {
@@ -243,8 +244,8 @@ fn set_head(text: &mut [u8], size: u32, count: u32)
 // Puts a change behind the record, in the room that is there.
 fn push_onto(text: &mut Vec<u8>, piece: &Piece)
     requires head { 8 ≤ length (record_of text.old.items) }
-    requires small { length (record_of text.old.items) + text_size (change_in piece.now) ≤ 2 ^ 25 + 8 }
-    requires few { count_of (record_of text.old.items) < 2 ^ 16 }
+    requires small { length (record_of text.old.items) + text_size (change_in piece.now) ≤ LONGEST_BODY + 8 }
+    requires few { count_of (record_of text.old.items) < MOST_CHANGES }
     requires short { length (name_of (change_in piece.now)) < 256 }
     requires recordable { IsRecordable (change_in piece.now) }
     requires room { length (record_of text.old.items) + text_size (change_in piece.now) ≤ vec_capacity text.old }

@@ -8,9 +8,6 @@ ghost use Rattle.vbm_intent.specs.Pieces.{change_in};
 
 use std::marker::Model;
 
-/// No record has a longer body, in bytes.
-pub(crate) const LONGEST_BODY: u32 = 1 << 25;
-
 /// One change of a record, which lends its name and bytes.
 #[derive(Clone, Copy, Debug)]
 pub(crate) enum Piece<'a> {

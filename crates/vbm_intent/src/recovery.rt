@@ -13,9 +13,10 @@ ghost use Rattle.vbm_intent.specs.Redone.{OnDone, OnBadLog, OnFailed, is_failed,
 use crate::Log;
 use crate::apply::apply;
 use crate::check::pending;
-use crate::log::{CLOSED, NAME, OPEN, set_gate};
-use crate::record::{Changes, LONGEST_BODY, u32_at};
-use vbm_ports::{Disk, Failed};
+use crate::limits::{LOG_HEAD_LEN, LONGEST_BODY};
+use crate::log::{CLOSED, OPEN, set_gate};
+use crate::record::{Changes, u32_at};
+use vbm_ports::{Disk, Failed, LOG_NAME};
 
 /// How redo ended.
 #[derive(Drop)]
@@ -28,22 +29,22 @@ pub enum Redone {
     BadLog,
 }
 
-/// The length in bytes of the body of the record that waits behind an open gate, at most 2^25, or `None` where the gate
+/// The length in bytes of the body of the record that waits behind an open gate, at most [`LONGEST_BODY`], or `None` where the gate
 /// is not open.
 pub fn record_size<D: Disk>(disk: &mut D) -> Result<Option<u32>, Failed>
     ensures answer { D.tells → IfOk result (λ size. MatchOption size (IsOpen ((D.state disk.old).files log_name) → ⊥)
         (λ n. IsOpen ((D.state disk.old).files log_name) × (n ≡ recorded_size ((D.state disk.old).files log_name)))) }
-    ensures bound { IfOk result (λ size. IfSome size (λ n. n ≤ 2 ^ 25)) }
+    ensures bound { IfOk result (λ size. IfSome size (λ n. n ≤ LONGEST_BODY)) }
     ensures reads { OnlyReads D.tells (D.state disk.old) (D.state disk.new) }
     ensures cause { OnErr result (Rose (D.state disk.old).faults (D.state disk.new).faults) }
     ensures no_fault { OnOk result ((D.state disk.new).faults ≡ (D.state disk.old).faults) }
 {
-    let len = disk.length(NAME)?.unwrap_or(0);
-    if len < 16 {
+    let len = disk.length(LOG_NAME)?.unwrap_or(0);
+    if len < LOG_HEAD_LEN as u64 {
         return Ok(None);
     }
-    let mut head = [0u8; 16];
-    disk.read(NAME, 0, &mut head)?;
+    let mut head = [0u8; LOG_HEAD_LEN];
+    disk.read(LOG_NAME, 0, &mut head)?;
     if head[0] != OPEN {
         return Ok(None);
     }
@@ -52,12 +53,12 @@ pub fn record_size<D: Disk>(disk: &mut D) -> Result<Option<u32>, Failed>
 
 /// Makes the changes of the record that waits behind an open gate, and shuts the log. It takes no memory.
 ///
-/// `buf` must hold 16 bytes more than `record_size` tells. With another `INDEX_ROOM` bytes a record is judged in the time
+/// `buf` must hold [`LOG_HEAD_LEN`] bytes more than `record_size` tells. With another `INDEX_ROOM` bytes a record is judged in the time
 /// that it takes to sort its changes; with less, in the square of their count. A bad record is found before the first change is made, and
 /// bytes behind its body are not read. Where the gate is not open, this does what `Log::start` does.
 pub fn redo<D: Disk>(disk: &mut D, buf: &mut [u8]) -> Redone
     requires room { D.tells → IsOpen ((D.state disk.old).files log_name)
-        → 16 + recorded_size ((D.state disk.old).files log_name) ≤ length buf.old }
+        → LOG_HEAD_LEN + recorded_size ((D.state disk.old).files log_name) ≤ length buf.old }
     ensures done { D.tells → OnDone result (RedoesTo (D.state disk.new).files (D.state disk.old).files) }
     ensures settled { D.tells → OnDone result (Only (D.state disk.new).files (D.state disk.new).may_leave) }
     ensures shut { D.tells → OnDone result (IsShutInAll (D.state disk.new).may_leave) }
@@ -83,7 +84,7 @@ pub fn redo<D: Disk>(disk: &mut D, buf: &mut [u8]) -> Redone
 fn redo_open<D: Disk>(disk: &mut D, size: u32, buf: &mut [u8]) -> Redone
     requires opens { D.tells → IsOpen ((D.state disk.old).files log_name) }
     requires size { D.tells → size ≡ recorded_size ((D.state disk.old).files log_name) }
-    requires room { D.tells → 16 + size ≤ length buf.old }
+    requires room { D.tells → LOG_HEAD_LEN + size ≤ length buf.old }
     ensures done { D.tells → OnDone result (RedoesTo (D.state disk.new).files (D.state disk.old).files) }
     ensures settled { D.tells → OnDone result (Only (D.state disk.new).files (D.state disk.new).may_leave) }
     ensures shut { D.tells → OnDone result (IsShutInAll (D.state disk.new).may_leave) }
@@ -95,12 +96,12 @@ fn redo_open<D: Disk>(disk: &mut D, size: u32, buf: &mut [u8]) -> Redone
     ensures cause { OnFailed result (Rose (D.state disk.old).faults (D.state disk.new).faults) }
     ensures counts { IsCounted (is_failed result) (D.state disk.old).faults (D.state disk.new).faults }
 {
-    let end = buf.len().min(16 + size as usize);
+    let end = buf.len().min(LOG_HEAD_LEN + size as usize);
     let (log, room) = buf.split_at_mut(end);
-    let Ok(got) = disk.read(NAME, 0, log) else {
+    let Ok(got) = disk.read(LOG_NAME, 0, log) else {
         return Redone::Failed;
     };
-    if got < 16 {
+    if got < LOG_HEAD_LEN {
         return Redone::BadLog;
     }
     match pending(disk, &log[8..got], room) {

@@ -6,6 +6,7 @@ ghost use Rattle.vbm_intent.specs.Changes.{effect, start_of, IsRecordable, IsAll
 ghost use Rattle.vbm_intent.specs.Pieces.{change_in};
 ghost use Rattle.vbm_intent.specs.Check.{touched_from, touched_to, AreApart};
 ghost use Rattle.vbm_intent.specs.Index.{ComesBefore};
+ghost use Rattle.vbm_ports.specs.declared.disk.TheConstants.{LONGEST_FILE};
 
 use crate::record::Piece;
 use std::cmp::Ordering;
@@ -86,10 +87,10 @@ pub(crate) fn comes_before(first: &Piece, second: &Piece) -> bool
 pub(crate) fn length_with(piece: &Piece, len: u64) -> u64
     requires allowed { IsAllowed (change_in piece.now) }
     requires short { IsRecordable (change_in piece.now) }
-    requires bound { len ≤ 2 ^ 60 }
+    requires bound { len ≤ LONGEST_FILE }
     ensures length { (file : Option (List ℕ)) → length (bytes_of file) ≡ len
         → length (bytes_of (effect (change_in piece.now) file)) ≡ result }
-    ensures bound { result ≤ 2 ^ 60 }
+    ensures bound { result ≤ LONGEST_FILE }
 {
     match *piece {
         Piece::Write { name: _, at, bytes } => len.max(at + bytes.len() as u64),

@@ -9,8 +9,8 @@ use Rattle.vbm_lines.specs.Lines.{Line as ReadLine, Short, TooLong, line_in, rea
 use Rattle.vbm_lines.specs.declared.reader.Next.{Next}
 use Rattle.vbm_lines.specs.declared.reader.Next.TheVariants.{Line, Long, End, ReadFault, Spent}
 use Rattle.vbm_lines.specs.Inputs.{AreFirst, AreRead, IsAllRead, IsCutOff, IsTooLong}
-use Rattle.vbm_lines.specs.Reader.{Reader, new_reader, AreLost, IsAt, Gives}
-use Rattle.vbm_lines.specs.Steps.{IsNext, counted_in}
+use Rattle.vbm_lines.specs.Reader.{Reader, new_reader, AreLost, IsAt, GivesLine}
+use Rattle.vbm_lines.specs.Steps.{IsNext, with_counted}
 use Rattle.vbm_lines.specs.Window.{without_return, IsFirstNewline, Extends}
 use Rattle.vbm_lines.proofs.Splits.{no_newline-append, read-append, read-ended, read-last, line_in-long, line_in-short, are_first, up_to-append, whole-ended, length-without_return}
 
@@ -73,7 +73,7 @@ last_is ReadFault skipping lost body are is = is
 last_is Spent skipping lost body are is = is
 
 gives : (next : Next) (line : ReadLine) (r : Reader) (input rest : List ℕ) (lines : List ReadLine) → Is next line
-    → IsAt r input rest (lines ++ line ∷ []) → Gives next r input rest lines
+    → IsAt r input rest (lines ++ line ∷ []) → GivesLine next r input rest lines
 gives (Line text) line r input rest lines is at = subst (λ line. IsAt r input rest (lines ++ line ∷ [])) is at
 gives Long line r input rest lines is at = subst (λ line. IsAt r input rest (lines ++ line ∷ [])) is at
 gives End line r input rest lines is at = absurd is
@@ -122,7 +122,7 @@ module _ (r : Reader) (input rest : List ℕ) (lines : List ReadLine) (at : IsAt
       some = omega (arith, ap length at.holds.split, length-append at.holds.lost r.held, first.within)
 
   pub gives_line : (i : ℕ) (next : Next) → IsFirstNewline r.held i → IsNext next r.skipping (without_return (take i r.held))
-      → Gives next (record r { held = drop (i + 1) r.held; skipping = false }) input rest lines
+      → GivesLine next (record r { held = drop (i + 1) r.held; skipping = false }) input rest lines
   gives_line i next first is =
       gives next (line_in (without_return (at.holds.lost ++ take i r.held)))
       (record r { held = drop (i + 1) r.held; skipping = false }) input rest lines
@@ -146,7 +146,7 @@ module _ (r : Reader) (input rest : List ℕ) (lines : List ReadLine) (at : IsAt
   }
 
   pub gives_last : (next : Next) → IsTrue r.ended → HasNoNewline r.held → IsNext next r.skipping r.held → (0 < length r.held) ⊎ IsTrue r.skipping
-      → Gives next (record r { held = []; skipping = false }) input rest lines
+      → GivesLine next (record r { held = []; skipping = false }) input rest lines
   gives_last next ended none is some =
       gives next (line_in at.left) (record r { held = []; skipping = false }) input rest lines
       (subst (λ bytes. Is next (line_in bytes)) (sym at.holds.split) (last_is next r.skipping at.holds.lost r.held at.holds.are_lost is))
@@ -264,7 +264,7 @@ module _ (r : Reader) (input rest : List ℕ) (lines : List ReadLine) (at : IsAt
         len : length window ≡ length r.held + n
         len = omega (arith, ap length took.held, length-append r.held (take n rest), length-take n rest, took.within)
 
-    pub more_taken : IsAt (counted_in (record r { held = window }) n) input new_rest lines
+    pub more_taken : IsAt (with_counted (record r { held = window }) n) input new_rest lines
     more_taken = record {
       bound = fits;
       within = omega (arith, at.within, took.within, ap length at.source, length-drop r.taken input);

@@ -47,12 +47,12 @@ pub record IsAt (r : Reader) (input rest : List ℕ) (lines : List ReadLine) : T
   pub end : IsTrue r.ended → (rest ≡ []) × (r.taken ≤ r.most)
 
 -- what reading the next line gives
-abbrev pub Gives : Next → Reader → List ℕ → List ℕ → List ReadLine → Type 0
-Gives (Line line) new input rest lines = IsAt new input rest (lines ++ Short line ∷ [])
-Gives Long new input rest lines = IsAt new input rest (lines ++ TooLong ∷ [])
-Gives End new input rest lines = IsAt new input rest lines × IsAllRead new.most input rest lines
-Gives ReadFault new input rest lines = IsAt new input rest lines × IsCutOff new.most input rest lines
-Gives Spent new input rest lines = IsAt new input rest lines × IsTooLong new.most input rest lines
+abbrev pub GivesLine : Next → Reader → List ℕ → List ℕ → List ReadLine → Type 0
+GivesLine (Line line) new input rest lines = IsAt new input rest (lines ++ Short line ∷ [])
+GivesLine Long new input rest lines = IsAt new input rest (lines ++ TooLong ∷ [])
+GivesLine End new input rest lines = IsAt new input rest lines × IsAllRead new.most input rest lines
+GivesLine ReadFault new input rest lines = IsAt new input rest lines × IsCutOff new.most input rest lines
+GivesLine Spent new input rest lines = IsAt new input rest lines × IsTooLong new.most input rest lines
 
 -- what more lines can be made of: bytes that are held or may still be taken, and the line whose first bytes are not held
 abbrev pub left_over : Reader → ℕ

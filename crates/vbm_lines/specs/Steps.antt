@@ -18,8 +18,8 @@ abbrev pub turns : Reader → ℕ
 turns r = r.most + 1 - r.taken + (if r.ended then 0 else 1)
 
 -- A reader that holds n bytes more, after they are counted. None means the end, and a byte past `most` is not kept.
-abbrev pub counted_in : Reader → ℕ → Reader
-counted_in r n = record r {
+abbrev pub with_counted : Reader → ℕ → Reader
+with_counted r n = record r {
   taken = r.taken + n;
   held = if nat_lt r.most (r.taken + n) then take (length r.held - 1) r.held else r.held;
   ended = n == 0;

@@ -4,8 +4,8 @@ ghost use Rattle.std.specs.Prelude.{◌≡◌, ◌<◌, ◌≤◌, ◌+◌, ◌^
 ghost use Rattle.std.specs.List.{list_any};
 ghost use Rattle.vbm_ports.specs.Counts.{Rose, IsCounted};
 ghost use Rattle.vbm_lines.specs.Lines.{is_newline, HasNoNewline, Line};
-ghost use Rattle.vbm_lines.specs.Reader.{new_reader, IsAt, Gives, OnReadFault, OnText, OnLine, failed_to_read, left_over};
-ghost use Rattle.vbm_lines.specs.Steps.{IsNext, counted_in, turns};
+ghost use Rattle.vbm_lines.specs.Reader.{new_reader, IsAt, GivesLine, OnReadFault, OnText, OnLine, failed_to_read, left_over};
+ghost use Rattle.vbm_lines.specs.Steps.{IsNext, with_counted, turns};
 ghost use Rattle.vbm_lines.specs.Window.{IsFirstNewline};
 
 use crate::lines::{ABOVE, LONGEST_LINE};
@@ -81,7 +81,7 @@ impl Lines {
     fn give_line(&mut self, at: usize) -> Result<Next, NoMemory>
         requires { IsFirstNewline self.old.held at }
         ensures lines { (input rest : List ℕ) (lines : List Line) → IsAt self.old input rest lines
-            → IfOk result (λ next. Gives next self.new input rest lines) }
+            → IfOk result (λ next. GivesLine next self.new input rest lines) }
         ensures kept { OnErr result (self.new ≡ self.old) }
         ensures short { IfOk result (OnText (λ line. length line ≤ LONGEST_LINE)) }
         ensures less { OnOk result (left_over self.new < left_over self.old) }
@@ -100,7 +100,7 @@ impl Lines {
         requires ended { IsTrue self.old.ended }
         requires none { HasNoNewline self.old.held }
         ensures lines { (input rest : List ℕ) (lines : List Line) → IsAt self.old input rest lines
-            → IfOk result (λ next. Gives next self.new input rest lines) }
+            → IfOk result (λ next. GivesLine next self.new input rest lines) }
         ensures kept { OnErr result (self.new ≡ self.old) }
         ensures short { IfOk result (OnText (λ line. length line ≤ LONGEST_LINE)) }
         ensures less { IfOk result (OnLine (left_over self.new < left_over self.old)) }
@@ -139,7 +139,7 @@ impl Lines {
         requires within { self.old.taken ≤ self.old.most }
         requires fits { self.old.taken + n ≤ self.old.most + 1 }
         requires some { n ≤ length self.old.held }
-        ensures { self.new ≡ counted_in self.old n }
+        ensures { self.new ≡ with_counted self.old n }
     {
         self.ended = n == 0;
         self.taken += n as u64;
@@ -173,7 +173,7 @@ impl Lines {
     /// Without memory the bytes that were taken are kept, and the source has not failed.
     pub fn next_line<S: Source>(&mut self, source: &mut S) -> Result<Next, NoMemory>
         ensures lines { S.tells → (input : List ℕ) (lines : List Line) → IsAt self.old input (S.rest source.old) lines
-            → IfOk result (λ next. Gives next self.new input (S.rest source.new) lines) }
+            → IfOk result (λ next. GivesLine next self.new input (S.rest source.new) lines) }
         ensures kept { S.tells → (input : List ℕ) (lines : List Line) → IsAt self.old input (S.rest source.old) lines
             → OnErr result (IsAt self.new input (S.rest source.new) lines) }
         ensures short { IfOk result (OnText (λ line. length line ≤ LONGEST_LINE)) }

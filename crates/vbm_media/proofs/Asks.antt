@@ -23,8 +23,7 @@ use Rattle.vbm_named.proofs.Lists.{find_map}
 use Rattle.vbm_store.specs.declared.store.Store.{Store}
 use Rattle.vbm_store.specs.declared.store.Image.{Image}
 use Rattle.vbm_store.specs.Serves.{serves, image_name, image_in, Holds}
-use Rattle.vbm_store.specs.Steps.{Decides}
-use Rattle.vbm_store.specs.declared.store.Decided.TheVariants as decided
+use Rattle.vbm_store.specs.Steps.{Answers}
 
 -- an asking command leaves what is unsettled as it was
 asks : (u : Unsettled) (w : World) (name : Name) → unsettled_after u w (ShowMediumInfo name) ≡ u
@@ -47,13 +46,13 @@ module _ (e : Store) (files : Files) (name : Name) where
   pub no_medium : Holds e.library e.images files → find_by image_name name e.images ≡ None → find_by medium_entry_name name e.library.media ≡ None
   no_medium holds none = none_mapped (image_in files) _ (sym (find_image holds) ∙ none)
 
-  pub shows_none : find_by medium_entry_name name e.library.media ≡ None → Decides files e (ShowMediumInfo name) (decided.Stay (Refused NoSuchMedium))
+  pub shows_none : find_by medium_entry_name name e.library.media ≡ None → Answers files e (ShowMediumInfo name) (Refused NoSuchMedium)
   shows_none none = (rw (medium_of_with none_changed e.library files name, none) refl, λ u. asks u (serves e files) name)
 
   pub shows : (m : Medium) (image : Image) → Holds e.library e.images files → find_by medium_entry_name name e.library.media ≡ Some m
       → find_by image_name name e.images ≡ Some image
-      → Decides files e (ShowMediumInfo name)
-      (decided.Stay (Info image.header.id image.header.modify m.mode (variant_of image.header.image_type) image.header.capacity false))
+      → Answers files e (ShowMediumInfo name)
+      (Info image.header.id image.header.modify m.mode (variant_of image.header.image_type) image.header.capacity false)
   unfolding medium_in world_with
   shows m image holds is there =
       let same : image_in files m ≡ image = cc (find_image holds, is, there) in (
@@ -74,6 +73,6 @@ names_listed files [] = refl
 names_listed files (m ∷ ms) = ap (λ ns. m.name ∷ ns) (names_listed files ms)
 
 pub lists : (e : Store) (files : Files) (names : List Name) → names ≡ map medium_entry_name e.library.media
-    → Decides files e ListHdds (decided.Stay (MediaList names))
+    → Answers files e ListHdds (MediaList names)
 unfolding world_with
 lists e files names is = (ap (λ (ns : List Name). (MediaList ns, serves e files)) (is ∙ sym (names_listed files e.library.media)), λ u. refl)

@@ -10,7 +10,7 @@ use Rattle.vbm_ports.proofs.NameLemmas.{store_name_short}
 use Rattle.vbm_intent.specs.declared.change.Change.{Change}
 use Rattle.vbm_intent.specs.declared.log.Log.{Log}
 use Rattle.vbm_intent.specs.declared.change.Change.TheVariants.{Remove}
-use Rattle.vbm_intent.specs.Changes.{of_file, after, changed, FitsFile, Fits}
+use Rattle.vbm_intent.specs.Changes.{of_file, file_after, changed, FitsFile, Fits}
 use Rattle.vbm_intent.specs.Plan.{body_size}
 use Rattle.vbm_registry.specs.declared.media.Medium.{Medium}
 use Rattle.vbm_registry.specs.declared.library.Library.{Library}
@@ -21,7 +21,9 @@ use Rattle.vbm_registry.proofs.Stores.{SameBesides, same_others, header_frame, s
 use Rattle.vbm_registry.proofs.Worlds.{medium_of_with, off_shelf, own_shelved, with_shelved_none, world_without}
 use Rattle.vbm_named.specs.Names.{Name, find_by, has_name, without}
 use Rattle.vbm_world.specs.World.{World, medium_name, with_shelved}
-use Rattle.vbm_world.specs.Step.{Outcome, shelved, step_of}
+use Rattle.vbm_world.specs.Outcomes.{Outcome}
+use Rattle.vbm_world.specs.Media.{shelved}
+use Rattle.vbm_world.specs.Step.{step_of}
 use Rattle.vbm_world.specs.Loose.{all_settled, is_refused}
 use Rattle.vbm_world.specs.declared.command.Answer.TheVariants.{Done, Refused}
 use Rattle.vbm_world.specs.declared.command.Command.TheVariants.{CloseMedium}
@@ -29,12 +31,11 @@ use Rattle.vbm_world.specs.declared.command.Refusal.TheVariants.{NoSuchMedium}
 use Rattle.vbm_named.proofs.Lists.{name_refl, name_sym, All-map, All-find, has_found, find_named, without_map}
 use Rattle.vbm_store.specs.declared.store.Store.{Store}
 use Rattle.vbm_store.specs.declared.store.Image.{Image}
-use Rattle.vbm_store.specs.declared.store.Decided.TheVariants as decided
 use Rattle.vbm_media.specs.Closes.{removal}
 use Rattle.vbm_store.specs.Plans.{library_changes}
 use Rattle.vbm_store.specs.Serves.{serves, image_name, image_in, IsSoundStore, Holds}
 use Rattle.vbm_store.specs.Kept.{KeepsBytes}
-use Rattle.vbm_store.specs.Steps.{Manages, Decides}
+use Rattle.vbm_store.specs.Steps.{Manages, Answers}
 use Rattle.vbm_store.proofs.Keeping.{kept_media}
 use Rattle.vbm_store.proofs.Turning.{manages}
 use Rattle.vbm_store.proofs.Decisions.{medium_not_library, inner_not_library, kept_or}
@@ -58,7 +59,7 @@ module _ (name : Name) (delete : Bool) (named : IsTrue (is_medium_name name)) wh
 
   removed : (files : Files) (n : Name) → changed (removal name delete) files n ≡ cond (delete && bytes_eq name n) None (files n)
   removed files n = elim delete as (λ d. changed (removal name d) files n ≡ cond (d && bytes_eq name n) None (files n)) [
-    | true ↦ elim (bytes_eq name n) as (λ b. after (cond b (Remove name ∷ []) []) (files n) ≡ cond b None (files n)) [ true ↦ refl | false ↦ refl ]
+    | true ↦ elim (bytes_eq name n) as (λ b. file_after (cond b (Remove name ∷ []) []) (files n) ≡ cond b None (files n)) [ true ↦ refl | false ↦ refl ]
     | false ↦ refl
   ]
 
@@ -75,7 +76,7 @@ none_or file false none = none
 -- ---- the store without the medium
 
 pub closes_none : (e : Store) (files : Files) (name : Name) (delete : Bool) → find_by medium_entry_name name e.library.media ≡ None
-    → Decides files e (CloseMedium name delete) (decided.Stay (Refused NoSuchMedium))
+    → Answers files e (CloseMedium name delete) (Refused NoSuchMedium)
 closes_none e files name delete none =
     let by : (Refused NoSuchMedium, serves e files) ≡ step_of (serves e files) (CloseMedium name delete) 0 =
     rw (medium_of_with none_changed e.library files name, none) refl in

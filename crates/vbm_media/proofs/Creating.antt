@@ -25,9 +25,11 @@ use Rattle.vbm_world.specs.declared.command.Answer.TheVariants.{Id}
 use Rattle.vbm_world.specs.declared.command.Size.{Size}
 use Rattle.vbm_named.specs.Names.{Name, has_name, put_by}
 use Rattle.vbm_world.specs.World.{World, medium_name, zero_disk}
-use Rattle.vbm_world.specs.declared.refusals.TheConstants.{MEDIA_LIMIT}
-use Rattle.vbm_world.specs.Refusals.{capacity_of, is_bad_size, first_refusal, create_checks}
-use Rattle.vbm_world.specs.Step.{Outcome, step_of, made_medium, refused_or}
+use Rattle.vbm_world.specs.declared.limits.TheConstants.{MEDIA_LIMIT}
+use Rattle.vbm_world.specs.Refusals.{capacity_of, is_bad_size, first_refusal}
+use Rattle.vbm_world.specs.Media.{create_checks, made_medium}
+use Rattle.vbm_world.specs.Outcomes.{Outcome, refused_or}
+use Rattle.vbm_world.specs.Step.{step_of}
 use Rattle.vbm_named.proofs.Lists.{name_sym, put_map}
 use Rattle.vbm_registry.specs.declared.media.Medium.{Medium}
 use Rattle.vbm_registry.specs.declared.library.Library.{Library}
@@ -39,13 +41,12 @@ use Rattle.vbm_registry.proofs.Worlds.{is_medium_with, drawn_foreign, drawn_know
 use Rattle.vbm_store.specs.declared.store.Store.{Store}
 use Rattle.vbm_store.specs.declared.images.Edit.{Edit}
 use Rattle.vbm_store.specs.Edits.{edited}
-use Rattle.vbm_store.specs.declared.store.Decided.{Decided}
-use Rattle.vbm_store.specs.declared.store.Decided.TheVariants as decided
+use Rattle.vbm_store.specs.declared.decision.Turn.{Turn}
 use Rattle.vbm_store.specs.Plans.{library_changes, image_changes}
-use Rattle.vbm_media.specs.Creates.{first_check, CanCreate, new_entry, library_made as made_library, IsNewMedium, MakesMedium, Creates}
+use Rattle.vbm_media.specs.Creates.{first_check, CanCreate, new_entry, library_made as made_library, IsNewMedium, MayCreate, Creates}
 use Rattle.vbm_store.specs.Serves.{image_name, image_in, serves, IsSoundStore, Holds}
 use Rattle.vbm_store.specs.Kept.{KeepsBytes}
-use Rattle.vbm_store.specs.Steps.{Manages, Decides, DecidesSound}
+use Rattle.vbm_store.specs.Steps.{Manages, Plans, IsSoundTurn}
 use Rattle.vbm_store.proofs.Keeping.{kept_media}
 use Rattle.vbm_store.proofs.Turning.{manages}
 use Rattle.vbm_store.proofs.Decisions.{medium_not_library, inner_not_library}
@@ -237,32 +238,17 @@ module _ (files : Files) (e : Store) (name : Name) (size : Size) (h : Header) (s
       absurd cc)) ∙ gone)
 
 -- the same, of what the code decides
-turned : (files : Files) (e : Store) (name : Name) (size : Size) (library : Library) (edit : Edit) (plan : List Change) (a : Answer)
+pub turned : (files : Files) (e : Store) (name : Name) (size : Size) (turn : Turn)
     → IsSoundStore e → Holds e.library e.images files → IsTrue (is_medium_name name) → CanCreate e.library name (capacity_of size)
-    → files name ≡ None → first_refusal (create_checks (serves e files) name (capacity_of size)) ≡ None
-    → MakesMedium e name (capacity_of size) library edit plan a → (log : Log)
-    → Manages files e (CreateMedium name size Standard) plan (record { library = library; images = edited edit e.images; log = log }) a
-turned files e name size library edit plan a sound holds named can absent none makes log =
-    let changes : plan ≡ image_changes name makes.header ++ library_changes (made_library e.library name) =
-    makes.changes ∙ ap (λ l. image_changes name makes.header ++ library_changes l) makes.made in
-    let t = created files e name size makes.header sound holds named can absent makes.medium none log in
-    rw (makes.made, makes.placed, changes, makes.answer) t
+    → MayCreate files e name (capacity_of size) → Creates e name (capacity_of size) turn → Plans files e (CreateMedium name size Standard) turn
+turned files e name size turn sound holds named can may creates log =
+    let changes : turn.plan.changes ≡ image_changes name creates.header ++ library_changes (made_library e.library name) =
+    creates.changes ∙ ap (λ l. image_changes name creates.header ++ library_changes l) creates.made in
+    let t = created files e name size creates.header sound holds named can may.absent creates.medium may.allowed log in
+    rw (creates.made, creates.placed, changes, creates.answer) t
 
-pub decided_turn : (files : Files) (e : Store) (name : Name) (size : Size) (d : Decided)
-    → IsSoundStore e → Holds e.library e.images files → IsTrue (is_medium_name name) → CanCreate e.library name (capacity_of size)
-    → files name ≡ None → first_refusal (create_checks (serves e files) name (capacity_of size)) ≡ None
-    → Creates e name (capacity_of size) d → Decides files e (CreateMedium name size Standard) d
-decided_turn files e name size (decided.Stay a) sound holds named can absent none creates = absurd creates
-decided_turn files e name size (decided.Turn library edit p a) sound holds named can absent none creates =
-    turned files e name size library edit p.changes a sound holds named can absent none creates
-decided_turn files e name size decided.NoMemory sound holds named can absent none creates = absurd creates
-decided_turn files e name size decided.Failed sound holds named can absent none creates = absurd creates
-
-pub decided_sound : (e : Store) (name : Name) (capacity : ℕ) (d : Decided) → IsSoundStore e → IsTrue (is_medium_name name) → CanCreate e.library name capacity
-    → Creates e name capacity d → DecidesSound e d
-decided_sound e name capacity (decided.Stay a) sound named can creates = absurd creates
-decided_sound e name capacity (decided.Turn library edit p a) sound named can creates =
+pub turned_sound : (e : Store) (name : Name) (capacity : ℕ) (turn : Turn) → IsSoundStore e → IsTrue (is_medium_name name) → CanCreate e.library name capacity
+    → Creates e name capacity turn → IsSoundTurn e turn
+turned_sound e name capacity turn sound named can creates =
     rw (creates.made, creates.placed)
     (made_is_library e.library name capacity sound.library named can, made_is_quiet e.library name sound.quiet, made_images e name creates.header sound)
-decided_sound e name capacity decided.NoMemory sound named can creates = absurd creates
-decided_sound e name capacity decided.Failed sound named can creates = absurd creates

@@ -1,7 +1,6 @@
 -- Opening a medium.
 use Rattle.std.proofs.Common.{◌≡◌, ℕ, ◌<◌, Bool, true, false, List, [], map, length, Option, Some, None, Result, Ok, Err, refl, sym, ap, subst, ◌∙◌, arith, cond, is_some, IsTrue}
 use Rattle.std.specs.Prelude.{nat_le}
-use Rattle.std.specs.List.{list_any}
 use Rattle.std.specs.Option.{option_map}
 use Rattle.std.specs.Str.{bytes_eq}
 use Rattle.std.proofs.lemmas.Bool.{leb-false}
@@ -25,9 +24,11 @@ use Rattle.vbm_registry.proofs.Worlds.{is_medium_with, has_id_with, on_shelf, sh
 use Rattle.vbm_named.specs.Names.{Name, find_by, has_name, put_by}
 use Rattle.vbm_world.specs.World.{World, medium_id, medium_name, with_shelved}
 use Rattle.vbm_ids.specs.Identifier.{is_foreign, has_id}
-use Rattle.vbm_world.specs.declared.refusals.TheConstants.{MEDIA_LIMIT}
-use Rattle.vbm_world.specs.Refusals.{first_refusal, file_checks, is_full}
-use Rattle.vbm_world.specs.Step.{Outcome, refused_or, opened, step_of}
+use Rattle.vbm_world.specs.declared.limits.TheConstants.{MEDIA_LIMIT}
+use Rattle.vbm_world.specs.Refusals.{first_refusal, is_full}
+use Rattle.vbm_world.specs.Media.{file_checks, opened}
+use Rattle.vbm_world.specs.Outcomes.{Outcome, refused_or}
+use Rattle.vbm_world.specs.Step.{step_of}
 use Rattle.vbm_world.specs.Loose.{all_settled, is_refused}
 use Rattle.vbm_world.specs.declared.command.Answer.TheVariants.{Id, Refused}
 use Rattle.vbm_world.specs.declared.command.Command.TheVariants.{OpenMedium}
@@ -35,15 +36,16 @@ use Rattle.vbm_world.specs.declared.command.Refusal.{Refusal}
 use Rattle.vbm_world.specs.declared.command.Refusal.TheVariants.{NameTaken, NoSuchFile, NotAnImage}
 use Rattle.vbm_named.proofs.Lists.{All-map, has_found, any_map, put_map}
 use Rattle.vbm_store.specs.declared.store.Store.{Store}
+use Rattle.vbm_store.specs.declared.image.OpenFault.{OpenFault}
+use Rattle.vbm_store.specs.declared.image.OpenFault.TheVariants as faults
 use Rattle.vbm_store.specs.declared.store.Image.{Image}
-use Rattle.vbm_store.specs.declared.store.Decided.TheVariants as decided
 use Rattle.vbm_media.specs.Creates.{new_entry}
-use Rattle.vbm_store.specs.Images.{IsRead}
+use Rattle.vbm_store.specs.Images.{IsRead, OpensImage}
 use Rattle.vbm_store.specs.Plans.{library_changes}
-use Rattle.vbm_media.specs.Registers.{image_checks}
-use Rattle.vbm_store.specs.Serves.{serves, image_name, image_in, IsSoundStore, Holds}
+use Rattle.vbm_media.specs.Registers.{image_checks, undone_by}
+use Rattle.vbm_store.specs.Serves.{image_id, serves, image_name, image_in, IsSoundStore, Holds}
 use Rattle.vbm_store.specs.Kept.{KeepsBytes}
-use Rattle.vbm_store.specs.Steps.{Manages, Decides}
+use Rattle.vbm_store.specs.Steps.{Manages, Answers, Refuses}
 use Rattle.vbm_store.proofs.Keeping.{kept_media}
 use Rattle.vbm_store.proofs.Turning.{manages}
 use Rattle.vbm_store.proofs.Decisions.{medium_not_library, inner_not_library, kept_or}
@@ -56,14 +58,14 @@ passes false refusal o e = (refl, e)
 
 -- an image that no check refuses
 record IsWelcome (l : Library) (images : List Image) (h : Header) : Type 0 where
-  new : list_any (λ (i : Image). bytes_eq i.header.id h.id) images ≡ false
+  new : has_id image_id h.id images ≡ false
   known : is_foreign l.seed l.next h.id ≡ false
   room : length l.media < MEDIA_LIMIT
   whole : is_differencing h.image_type ≡ false
 
 welcome : (l : Library) (images : List Image) (h : Header) → first_refusal (image_checks l images h) ≡ None → IsWelcome l images h
 welcome l images h allowed =
-    let new = passes (list_any (λ (i : Image). bytes_eq i.header.id h.id) images) _ _ allowed in
+    let new = passes (has_id image_id h.id images) _ _ allowed in
     let known = passes (is_foreign l.seed l.next h.id) _ _ new.1 in
     let room = passes (nat_le MEDIA_LIMIT (length l.media)) _ _ known.1 in
     let whole = passes (is_differencing h.image_type) _ _ room.1 in
@@ -83,11 +85,11 @@ file_read files name read (Some f) there is = record { file = f; there = there; 
 -- a command that refuses
 refuses : (e : Store) (files : Files) (name : Name) (refusal : Refusal)
     → (Refused refusal, serves e files) ≡ step_of (serves e files) (OpenMedium name) 0
-    → Decides files e (OpenMedium name) (decided.Stay (Refused refusal))
+    → Answers files e (OpenMedium name) (Refused refusal)
 refuses e files name refusal by = (by, λ u. ap (λ (o : Outcome). cond (is_refused o.0) u all_settled) (sym by))
 
 pub opens_taken : (e : Store) (files : Files) (name : Name) (m : Medium) → find_by medium_entry_name name e.library.media ≡ Some m
-    → Decides files e (OpenMedium name) (decided.Stay (Refused NameTaken))
+    → Answers files e (OpenMedium name) (Refused NameTaken)
 opens_taken e files name m is = refuses e files name NameTaken
     (rw (is_medium_with none_changed e.library files name ∙ has_found medium_entry_name name e.library.media ∙ ap is_some is) refl)
 
@@ -115,19 +117,26 @@ module _ (e : Store) (files : Files) (name : Name) (holds : Holds e.library e.im
   unfolding world_with
   opens = rw (is_medium_with none_changed e.library files name ∙ free, on_shelf e.library files name named free sound.quiet.making) refl
 
-  pub opens_missing : files name ≡ None → Decides files e (OpenMedium name) (decided.Stay (Refused NoSuchFile))
+  pub opens_missing : files name ≡ None → Answers files e (OpenMedium name) (Refused NoSuchFile)
   opens_missing none = refuses e files name NoSuchFile (sym (opens ∙ rw none refl))
 
   pub opens_bad : (bad : BadImage) → IsRead (files name) (Err bad)
-      → Decides files e (OpenMedium name) (decided.Stay (Refused (NotAnImage (condition_number bad))))
+      → Answers files e (OpenMedium name) (Refused (NotAnImage (condition_number bad)))
   opens_bad bad read =
       let f = file_read files name (Err bad) (files name) refl read in
       refuses e files name (NotAnImage (condition_number bad)) (sym (opens ∙ rw (f.there, shelved_of_file f.file (Err bad) f.is) refl))
 
-  has_id_here : (id : List ℕ) → has_id medium_id id (serves e files).media ≡ list_any (λ (i : Image). bytes_eq i.header.id id) e.images
+  -- a file that is not opened
+  pub not_opened : (fault : OpenFault) → OpensImage (Err fault) (files name) → Refuses files e (OpenMedium name) (undone_by fault)
+  not_opened faults.Missing none = opens_missing none
+  not_opened (faults.Bad bad) read = opens_bad bad read
+  not_opened faults.Failed told = tt
+  not_opened faults.NoMemory told = tt
+
+  has_id_here : (id : List ℕ) → has_id medium_id id (serves e files).media ≡ has_id image_id id e.images
   has_id_here id =
       has_id_with none_changed e.library files id
-      ∙ sym (ap (list_any (λ (i : Image). bytes_eq i.header.id id)) holds.headers
+      ∙ sym (ap (has_id image_id id) holds.headers
       ∙ any_map (image_in files) (λ (i : Image). bytes_eq i.header.id id) e.library.media)
 
   full_here : is_full (serves e files) ≡ nat_le MEDIA_LIMIT (length e.library.media)
@@ -150,7 +159,7 @@ module _ (e : Store) (files : Files) (name : Name) (holds : Holds e.library e.im
     opens_image = opens ∙ rw (f.there, shelved_of_file f.file (Ok h) f.is, checks (is_differencing h.image_type) refl) refl
 
     pub opens_refused : (refusal : Refusal) → first_refusal (image_checks e.library e.images h) ≡ Some refusal
-        → Decides files e (OpenMedium name) (decided.Stay (Refused refusal))
+        → Answers files e (OpenMedium name) (Refused refusal)
     opens_refused refusal is = refuses e files name refusal (sym (opens_image ∙ rw is refl))
 
     module _ (allowed : first_refusal (image_checks e.library e.images h) ≡ None) where

@@ -1,5 +1,6 @@
 -- What the making of a medium is made of.
-use Rattle.std.specs.Prelude.{◌≡◌, ℕ, ◌+◌, ◌<◌, Bool, List, [], ◌∷◌, ◌++◌, length, Option, false}
+use Rattle.std.specs.Prelude.{◌≡◌, ℕ, ◌+◌, ◌<◌, Bool, List, [], ◌∷◌, ◌++◌, length, Option, None, false}
+use Rattle.vbm_ports.specs.Files.{Files}
 use Rattle.vbm_header.specs.declared.Header.{Header}
 use Rattle.vbm_header.specs.declared.ImageType.TheVariants.{Dynamic}
 use Rattle.vbm_volume.specs.Made.{IsNewHeader}
@@ -7,24 +8,22 @@ use Rattle.vbm_ids.specs.declared.Kind.TheVariants as kinds
 use Rattle.vbm_ids.specs.declared.TheConstants.{NUMBER_LIMIT}
 use Rattle.vbm_ids.specs.Identifier.{identifier_of}
 use Rattle.vbm_modes.specs.declared.Mode.TheVariants.{Normal}
-use Rattle.vbm_intent.specs.declared.change.Change.{Change}
-use Rattle.vbm_world.specs.declared.command.Answer.{Answer}
 use Rattle.vbm_world.specs.declared.command.Answer.TheVariants.{Id}
 use Rattle.vbm_world.specs.declared.command.Refusal.{Refusal}
 use Rattle.vbm_world.specs.declared.command.Refusal.TheVariants.{NameTaken, FileExists, BadSize, Full, IdsSpent}
 use Rattle.vbm_world.specs.declared.command.Which.TheVariants.{Media}
 use Rattle.vbm_named.specs.Names.{Name, has_name}
-use Rattle.vbm_world.specs.declared.refusals.TheConstants.{MEDIA_LIMIT}
+use Rattle.vbm_world.specs.declared.limits.TheConstants.{MEDIA_LIMIT}
 use Rattle.vbm_world.specs.Refusals.{first_refusal, is_bad_size}
+use Rattle.vbm_world.specs.Media.{create_checks}
 use Rattle.vbm_registry.specs.declared.media.Medium.{Medium}
 use Rattle.vbm_registry.specs.declared.library.Library.{Library}
 use Rattle.vbm_registry.specs.Library.{medium_entry_name, with_entry}
 use Rattle.vbm_store.specs.declared.store.Store.{Store}
-use Rattle.vbm_store.specs.declared.images.Edit.{Edit}
 use Rattle.vbm_store.specs.declared.images.Edit.TheVariants.{Put}
-use Rattle.vbm_store.specs.declared.store.Decided.{Decided}
-use Rattle.vbm_store.specs.declared.store.Decided.TheVariants as decided
+use Rattle.vbm_store.specs.declared.decision.Turn.{Turn}
 use Rattle.vbm_store.specs.Plans.{library_changes, image_changes}
+use Rattle.vbm_store.specs.Serves.{serves}
 
 -- the refusal, by whether each of the conditions holds
 abbrev pub first_check : Bool → Bool → Bool → Bool → Bool → Option Refusal
@@ -54,17 +53,16 @@ pub record IsNewMedium (l : Library) (capacity : ℕ) (h : Header) : Type 0 wher
   pub id : h.id ≡ identifier_of l.seed kinds.Medium l.next
   pub modify : h.modify ≡ identifier_of l.seed kinds.Modify l.next
 
--- what is decided where the medium is made
-pub record MakesMedium (e : Store) (name : Name) (capacity : ℕ) (library : Library) (edit : Edit) (plan : List Change) (a : Answer) : Type 0 where
+-- the machine makes the medium of these files
+pub record MayCreate (files : Files) (e : Store) (name : Name) (capacity : ℕ) : Type 0 where
+  pub absent : files name ≡ None
+  pub allowed : first_refusal (create_checks (serves e files) name capacity) ≡ None
+
+-- the turn to a store with the medium
+pub record Creates (e : Store) (name : Name) (capacity : ℕ) (turn : Turn) : Type 0 where
   pub header : Header
   pub medium : IsNewMedium e.library capacity header
-  pub made : library ≡ library_made e.library name
-  pub placed : edit ≡ Put (record { name = name; header = header })
-  pub changes : plan ≡ image_changes name header ++ library_changes library
-  pub answer : a ≡ Id header.id
-
-abbrev pub Creates : Store → Name → ℕ → Decided → Type 0
-Creates e name capacity (decided.Stay a) = ⊥
-Creates e name capacity (decided.Turn library edit plan a) = MakesMedium e name capacity library edit plan.changes a
-Creates e name capacity decided.NoMemory = ⊥
-Creates e name capacity decided.Failed = ⊥
+  pub made : turn.library ≡ library_made e.library name
+  pub placed : turn.edit ≡ Put (record { name = name; header = header })
+  pub changes : turn.plan.changes ≡ image_changes name header ++ library_changes turn.library
+  pub answer : turn.answer ≡ Id header.id

@@ -1,20 +1,21 @@
 //! Commands that ask: a store answers them without its disk.
 
-ghost use Rattle.std.specs.Prelude.{◌≡◌, false, map, IfOk};
+ghost use Rattle.std.specs.Prelude.{◌≡◌, false, map, IfOk, IfErr};
 ghost use Rattle.vbm_ports.specs.Files.{Files};
 ghost use Rattle.vbm_registry.specs.Library.{medium_entry_name};
 ghost use Rattle.vbm_registry.specs.Stands.{variant_of as variant_by_type};
 ghost use Rattle.vbm_world.specs.declared.command.Command.TheVariants.{ShowMediumInfo, ListHdds};
 ghost use Rattle.vbm_world.specs.declared.command.Answer.TheVariants as answers;
 ghost use Rattle.vbm_store.specs.Serves.{Holds};
-ghost use Rattle.vbm_store.specs.Steps.{Decides, DecidesSound, deciding_failed};
+ghost use Rattle.vbm_store.specs.Undone.{has_failed};
+ghost use Rattle.vbm_store.specs.Steps.{Answers, Refuses};
 
 use std::alloc::Global;
 use vbm_header::ImageType;
 use vbm_named::names::find;
 use vbm_ports::{Names, NoMemory, Text};
 use vbm_registry::{Media, Medium};
-use vbm_store::{Decided, Image, Store};
+use vbm_store::{Image, Store, Undone};
 use vbm_volume::Variant;
 use vbm_world::{Answer, Refusal};
 
@@ -43,20 +44,21 @@ fn info(medium: &Medium, image: &Image) -> Answer
     }
 }
 
-/// Decides `showmediuminfo`.
-pub fn decide_show(store: &Store, name: &[u8]) -> Decided
-    ensures decides { (files : Files) → Holds store.now.library store.now.images files
-        → Decides files store.now (ShowMediumInfo name.now) result }
-    ensures sound { DecidesSound store.now result }
-    ensures no_fault { deciding_failed result ≡ false }
+/// The answer to `showmediuminfo`.
+pub fn answer_show(store: &Store, name: &[u8]) -> Result<Answer, Undone<Refusal>>
+    ensures answer { (files : Files) → Holds store.now.library store.now.images files
+        → IfOk result (Answers files store.now (ShowMediumInfo name.now)) }
+    ensures refused { (files : Files) → Holds store.now.library store.now.images files
+        → IfErr result (Refuses files store.now (ShowMediumInfo name.now)) }
+    ensures no_fault { has_failed result ≡ false }
 {
     let Some(medium) = store.library.media.find(name) else {
-        return Decided::Stay(Answer::Refused(Refusal::NoSuchMedium));
+        return Err(Undone::Refused(Refusal::NoSuchMedium));
     };
     let Some(image) = find(store.images.as_slice(), name) else {
-        return Decided::Stay(Answer::Refused(Refusal::NoSuchMedium));
+        return Err(Undone::Refused(Refusal::NoSuchMedium));
     };
-    Decided::Stay(info(medium, image))
+    Ok(info(medium, image))
 }
 
 fn media_names(alloc: Global, media: &Media) -> Result<Names, NoMemory>
@@ -69,14 +71,9 @@ fn media_names(alloc: Global, media: &Media) -> Result<Names, NoMemory>
     Ok(names)
 }
 
-/// Decides `list hdds`.
-pub fn decide_list(alloc: Global, store: &Store) -> Decided
-    ensures decides { (files : Files) → Decides files store.now ListHdds result }
-    ensures sound { DecidesSound store.now result }
-    ensures no_fault { deciding_failed result ≡ false }
+/// The answer to `list hdds`.
+pub fn answer_list(alloc: Global, store: &Store) -> Result<Answer, NoMemory>
+    ensures { (files : Files) → IfOk result (Answers files store.now ListHdds) }
 {
-    match media_names(alloc, &store.library.media) {
-        Ok(names) => Decided::Stay(Answer::MediaList(names)),
-        Err(NoMemory) => Decided::NoMemory,
-    }
+    Ok(Answer::MediaList(media_names(alloc, &store.library.media)?))
 }

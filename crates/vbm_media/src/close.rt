@@ -1,6 +1,6 @@
 //! Closing media.
 
-ghost use Rattle.std.specs.Prelude.{◌≡◌, ◌++◌, IfOk, IsTrue, false};
+ghost use Rattle.std.specs.Prelude.{◌≡◌, ◌++◌, Bool, IfOk, IfErr, OnOk, IsTrue, false};
 ghost use Rattle.vbm_ports.specs.Files.{Files};
 ghost use Rattle.vbm_ports.specs.Names.{is_medium_name};
 ghost use Rattle.vbm_registry.specs.Library.{medium_entry_name, without_entry, IsLibrary, IsQuiet};
@@ -9,13 +9,14 @@ ghost use Rattle.vbm_world.specs.declared.command.Command.TheVariants.{CloseMedi
 ghost use Rattle.vbm_media.specs.Closes.{removal};
 ghost use Rattle.vbm_store.specs.Plans.{library_changes};
 ghost use Rattle.vbm_store.specs.Serves.{IsSoundStore, Holds};
-ghost use Rattle.vbm_store.specs.Steps.{Decides, DecidesSound, deciding_failed};
+ghost use Rattle.vbm_store.specs.Undone.{has_failed};
+ghost use Rattle.vbm_store.specs.Steps.{Refuses, Plans, IsSoundTurn};
 
 use std::alloc::Global;
 use vbm_intent::{Change, Plan};
 use vbm_ports::{NoMemory, Text};
 use vbm_registry::Library;
-use vbm_store::{Decided, Edit, Store, plan_library};
+use vbm_store::{Edit, Store, Turn, Undone, plan_library};
 use vbm_world::{Answer, Refusal};
 
 // Removes the file of a name, where it is asked for.
@@ -67,38 +68,32 @@ fn close_entry(
     Ok((library, Text::new(alloc, name)?, plan))
 }
 
-// Closes a medium that there is. No machine has it yet.
-fn close_found(alloc: Global, store: &Store, name: &[u8], delete: bool) -> Decided
-    requires sound { IsSoundStore store.now }
-    requires name { IsTrue (is_medium_name name.now) }
-    requires found { IsTrue (has_name medium_entry_name name.now store.now.library.media) }
-    ensures decides { (files : Files) → Holds store.now.library store.now.images files
-        → Decides files store.now (CloseMedium name.now delete) result }
-    ensures sound { DecidesSound store.now result }
-    ensures no_fault { deciding_failed result ≡ false }
+/// Why `closemedium` is refused, if it is.
+pub fn check_close(store: &Store, name: &[u8]) -> Result<(), Undone<Refusal>>
+    ensures refused { (files : Files) → (delete : Bool) → IfErr result (Refuses files store.now (CloseMedium name.now delete)) }
+    ensures found { OnOk result (IsTrue (has_name medium_entry_name name.now store.now.library.media)) }
+    ensures no_fault { has_failed result ≡ false }
 {
-    match close_entry(alloc, store, name, delete) {
-        Ok((library, name, plan)) => Decided::Turn {
-            library,
-            edit: Edit::Remove(name),
-            plan,
-            answer: Answer::Done,
-        },
-        Err(NoMemory) => Decided::NoMemory,
+    match store.library.media.find(name) {
+        Some(_) => Ok(()),
+        None => Err(Undone::Refused(Refusal::NoSuchMedium)),
     }
 }
 
-/// Decides `closemedium`, without the disk.
-pub fn decide_close(alloc: Global, store: &Store, name: &[u8], delete: bool) -> Decided
+/// The turn of `closemedium`, where no check refuses it. No machine has a medium yet.
+pub fn plan_close(alloc: Global, store: &Store, name: &[u8], delete: bool) -> Result<Turn, NoMemory>
     requires sound { IsSoundStore store.now }
     requires name { IsTrue (is_medium_name name.now) }
-    ensures decides { (files : Files) → Holds store.now.library store.now.images files
-        → Decides files store.now (CloseMedium name.now delete) result }
-    ensures sound { DecidesSound store.now result }
-    ensures no_fault { deciding_failed result ≡ false }
+    requires found { IsTrue (has_name medium_entry_name name.now store.now.library.media) }
+    ensures plans { (files : Files) → Holds store.now.library store.now.images files
+        → IfOk result (Plans files store.now (CloseMedium name.now delete)) }
+    ensures sound { IfOk result (IsSoundTurn store.now) }
 {
-    match store.library.media.find(name) {
-        Some(_) => close_found(alloc, store, name, delete),
-        None => Decided::Stay(Answer::Refused(Refusal::NoSuchMedium)),
-    }
+    let (library, name, plan) = close_entry(alloc, store, name, delete)?;
+    Ok(Turn {
+        library,
+        edit: Edit::Remove(name),
+        plan,
+        answer: Answer::Done,
+    })
 }

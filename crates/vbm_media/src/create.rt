@@ -1,8 +1,9 @@
 //! Making media.
 
-ghost use Rattle.std.specs.Prelude.{◌≡◌, ◌+◌, ◌<◌, ◌≤◌, ◌^◌, ◌++◌, None, length, IfOk, OnErr, IsTrue, IsFalse};
+ghost use Rattle.std.specs.Prelude.{◌≡◌, ◌+◌, ◌<◌, ◌≤◌, ◌^◌, ◌++◌, None, length, IfOk, IfErr, OnOk, OnErr, IsTrue, IsFalse};
 ghost use Rattle.vbm_ports.specs.Counts.{Rose, IsCounted};
 ghost use Rattle.vbm_ports.specs.Disk.{OnlyReads};
+ghost use Rattle.vbm_ports.specs.Files.{Files};
 ghost use Rattle.vbm_ports.specs.Names.{is_medium_name};
 ghost use Rattle.vbm_header.specs.declared.ImageType.TheVariants.{Dynamic};
 ghost use Rattle.vbm_volume.specs.Made.{IsNewHeader};
@@ -10,14 +11,15 @@ ghost use Rattle.vbm_volume.specs.declared.flat.Variant.TheVariants.{Standard};
 ghost use Rattle.vbm_ids.specs.Identifier.{IsSeed};
 ghost use Rattle.vbm_world.specs.declared.command.Command.TheVariants as commands;
 ghost use Rattle.vbm_named.specs.Names.{has_name};
-ghost use Rattle.vbm_world.specs.Refusals.{capacity_of, is_bad_size, first_refusal, create_checks};
-ghost use Rattle.vbm_world.specs.Texts.{IsSpelled};
+ghost use Rattle.vbm_world.specs.Refusals.{capacity_of, is_bad_size, first_refusal};
+ghost use Rattle.vbm_world.specs.Media.{create_checks};
 ghost use Rattle.vbm_registry.specs.Library.{medium_entry_name, IsLibrary, IsQuiet};
 ghost use Rattle.vbm_registry.specs.Stands.{world_with, none_changed};
 ghost use Rattle.vbm_store.specs.Plans.{library_changes, image_changes};
-ghost use Rattle.vbm_store.specs.Serves.{IsSoundStore, FitsDisk};
-ghost use Rattle.vbm_store.specs.Steps.{Decides, DecidesSound, deciding_failed};
-ghost use Rattle.vbm_media.specs.Creates.{first_check, library_made, CanCreate, IsNewMedium, Creates};
+ghost use Rattle.vbm_store.specs.Undone.{has_failed};
+ghost use Rattle.vbm_store.specs.Serves.{IsSoundStore, Holds};
+ghost use Rattle.vbm_store.specs.Steps.{Refuses, Plans, IsSoundTurn};
+ghost use Rattle.vbm_media.specs.Creates.{first_check, library_made, CanCreate, IsNewMedium, MayCreate, Creates};
 
 use std::alloc::Global;
 use vbm_header::Header;
@@ -26,7 +28,7 @@ use vbm_intent::Plan;
 use vbm_modes::Mode;
 use vbm_ports::{Disk, Failed, NoMemory, Text};
 use vbm_registry::{Library, Medium};
-use vbm_store::{Decided, Edit, Image, Store, plan_create, plan_library};
+use vbm_store::{Edit, Image, Store, Turn, Undone, plan_image, plan_library};
 use vbm_volume::{Variant, new_header};
 use vbm_world::{Answer, MEDIA_LIMIT, Refusal, Size, Which, is_bad_size};
 
@@ -86,6 +88,29 @@ fn create_refusal<D: Disk>(
     ))
 }
 
+/// Why `createmedium` is refused, if it is.
+pub fn check_create<D: Disk>(
+    store: &Store,
+    disk: &mut D,
+    name: &[u8],
+    size: Size,
+) -> Result<(), Undone<Refusal>>
+    requires sound { IsSoundStore store.now }
+    requires name { IsTrue (is_medium_name name.now) }
+    ensures refused { D.tells → (variant : Variant)
+        → IfErr result (Refuses (D.state disk.old).files store.now (commands.CreateMedium name.now size variant)) }
+    ensures can { OnOk result (CanCreate (store.now).library name.now (capacity_of size)) }
+    ensures may { D.tells → OnOk result (MayCreate (D.state disk.old).files store.now name.now (capacity_of size)) }
+    ensures reads { OnlyReads D.tells (D.state disk.old) (D.state disk.new) }
+    ensures faults { IsCounted (has_failed result) (D.state disk.old).faults (D.state disk.new).faults }
+{
+    match create_refusal(&store.library, disk, name, size) {
+        Ok(None) => Ok(()),
+        Ok(Some(refusal)) => Err(Undone::Refused(refusal)),
+        Err(Failed) => Err(Undone::Failed),
+    }
+}
+
 // The header of a new medium's image.
 fn header_of(library: &Library, capacity: u64, variant: Variant) -> Header
     requires seed { IsSeed (library.now).seed }
@@ -124,19 +149,19 @@ fn plan_of(alloc: Global, name: &[u8], header: &Header, library: &Library) -> Re
     ensures { IfOk result (λ plan. plan.changes ≡ image_changes name.now header.now ++ library_changes library.now) }
 {
     let mut plan = Plan::new(alloc);
-    plan_create(alloc, &mut plan, name, header)?;
+    plan_image(alloc, &mut plan, name, header)?;
     plan_library(alloc, &mut plan, library)?;
     Ok(plan)
 }
 
-// Makes a medium where no check refuses it.
-fn create(
+// The turn to a store with a new medium.
+fn turn_of(
     alloc: Global,
     store: &Store,
     name: &[u8],
     capacity: u64,
     variant: Variant,
-) -> Result<Decided, NoMemory>
+) -> Result<Turn, NoMemory>
     requires sound { IsSoundStore store.now }
     requires name { IsTrue (is_medium_name name.now) }
     requires can { CanCreate (store.now).library name.now capacity }
@@ -150,7 +175,7 @@ fn create(
         name: Text::new(alloc, name)?,
         header,
     };
-    Ok(Decided::Turn {
+    Ok(Turn {
         library,
         edit: Edit::Put(image),
         plan,
@@ -158,31 +183,22 @@ fn create(
     })
 }
 
-/// Decides `createmedium`.
-pub fn decide_create<D: Disk>(
+/// The turn of `createmedium`, where no check refuses it.
+pub fn plan_create(
     alloc: Global,
     store: &Store,
-    disk: &mut D,
-    name: &Text,
+    name: &[u8],
     size: Size,
     variant: Variant,
-) -> Decided
+) -> Result<Turn, NoMemory>
     requires sound { IsSoundStore store.now }
-    requires spelled { IsSpelled (commands.CreateMedium name.now size variant) }
-    requires fits { D.tells → FitsDisk store.now (D.state disk.old) }
-    ensures decides { D.tells → Decides (D.state disk.old).files store.now (commands.CreateMedium name.now size variant) result }
-    ensures sound { DecidesSound store.now result }
-    ensures reads { OnlyReads D.tells (D.state disk.old) (D.state disk.new) }
-    ensures faults { IsCounted (deciding_failed result) (D.state disk.old).faults (D.state disk.new).faults }
+    requires name { IsTrue (is_medium_name name.now) }
+    requires variant { variant ≡ Standard }
+    requires can { CanCreate (store.now).library name.now (capacity_of size) }
+    ensures plans { (files : Files) → Holds store.now.library store.now.images files
+        → MayCreate files store.now name.now (capacity_of size)
+        → IfOk result (Plans files store.now (commands.CreateMedium name.now size variant)) }
+    ensures sound { IfOk result (IsSoundTurn store.now) }
 {
-    match create_refusal(&store.library, disk, name.bytes(), size) {
-        Err(Failed) => Decided::Failed,
-        Ok(Some(refusal)) => Decided::Stay(Answer::Refused(refusal)),
-        Ok(None) => {
-            match create(alloc, store, name.bytes(), size.capacity() as u64, variant) {
-                Ok(turn) => turn,
-                Err(NoMemory) => Decided::NoMemory,
-            }
-        }
-    }
+    turn_of(alloc, store, name, size.capacity() as u64, variant)
 }

@@ -6,7 +6,7 @@ mod close;
 mod create;
 mod register;
 
-pub use ask::{decide_list, decide_show};
-pub use close::decide_close;
-pub use create::decide_create;
-pub use register::decide_open;
+pub use ask::{answer_list, answer_show};
+pub use close::{check_close, plan_close};
+pub use create::{check_create, plan_create};
+pub use register::{check_open, plan_open};

@@ -1,8 +1,6 @@
 //! Opening media: a file of the shelf becomes a medium.
 
-ghost use Rattle.std.specs.Prelude.{◌≡◌, false, None, Ok, IfOk, IsTrue, IsFalse};
-ghost use Rattle.std.specs.List.{list_any};
-ghost use Rattle.std.specs.Str.{bytes_eq};
+ghost use Rattle.std.specs.Prelude.{◌≡◌, false, Ok, IfOk, IfErr, IsTrue, IsFalse};
 ghost use Rattle.vbm_ports.specs.Counts.{IsCounted};
 ghost use Rattle.vbm_ports.specs.Disk.{OnlyReads};
 ghost use Rattle.vbm_ports.specs.Files.{Files};
@@ -14,32 +12,21 @@ ghost use Rattle.vbm_world.specs.declared.command.Command.TheVariants.{OpenMediu
 ghost use Rattle.vbm_store.specs.Images.{IsRead};
 ghost use Rattle.vbm_store.specs.Plans.{library_changes};
 ghost use Rattle.vbm_media.specs.Creates.{new_entry};
-ghost use Rattle.vbm_media.specs.Registers.{image_checks};
+ghost use Rattle.vbm_media.specs.Registers.{image_checks, undone_by, CanOpen};
 ghost use Rattle.vbm_store.specs.Serves.{IsSoundStore, Holds, FitsDisk};
-ghost use Rattle.vbm_store.specs.Steps.{Decides, DecidesSound, deciding_failed};
+ghost use Rattle.vbm_store.specs.Undone.{has_failed};
+ghost use Rattle.vbm_store.specs.Steps.{Refuses, Plans, IsSoundTurn};
 
 use std::alloc::Global;
 use uuid::Uuid;
 use vbm_header::Header;
-use vbm_ids::is_foreign;
+use vbm_ids::{Identified, has_id, is_foreign};
 use vbm_intent::Plan;
 use vbm_modes::Mode;
 use vbm_ports::{Disk, NoMemory, Text};
 use vbm_registry::{Library, Medium};
-use vbm_store::{Decided, Edit, Image, OpenFault, Store, open_image, plan_library};
+use vbm_store::{Edit, Image, OpenFault, Store, Turn, Undone, open_image, plan_library};
 use vbm_world::{Answer, MEDIA_LIMIT, Refusal, Which};
-
-fn has_id(images: &[Image], id: Uuid) -> bool
-    ensures { result ≡ list_any (λ (i : Image). bytes_eq i.header.id id) images.now }
-{
-    images.iter().any(|image| image.header.id == id)
-}
-
-fn id_of(image: &Image) -> Uuid
-    ensures { result ≡ image.now.header.id }
-{
-    image.header.id
-}
 
 // Why an accepted image is refused.
 fn image_refusal(store: &Store, header: &Header) -> Option<Refusal>
@@ -85,93 +72,111 @@ fn library_plan(alloc: Global, library: &Library) -> Result<Plan, NoMemory>
     Ok(plan)
 }
 
-// The library with the medium, and the plan.
-fn add_entry(alloc: Global, store: &Store, name: &[u8]) -> Result<(Library, Plan), NoMemory>
+// The library with the image's medium, and the plan.
+fn add_entry(alloc: Global, store: &Store, image: &Image) -> Result<(Library, Plan), NoMemory>
     requires sound { IsLibrary store.now.library }
     requires quiet { IsQuiet store.now.library }
-    requires free { IsFalse (has_name medium_entry_name name.now store.now.library.media) }
-    requires grown { IsLibrary (with_entry store.now.library (new_entry name.now)) }
-    ensures library { IfOk result (λ x. x.0 ≡ with_entry store.now.library (new_entry name.now)) }
-    ensures plan { IfOk result (λ x. x.1.changes ≡ library_changes (with_entry store.now.library (new_entry name.now))) }
+    requires free { IsFalse (has_name medium_entry_name image.now.name store.now.library.media) }
+    requires grown { IsLibrary (with_entry store.now.library (new_entry image.now.name)) }
+    ensures library { IfOk result (λ x. x.0 ≡ with_entry store.now.library (new_entry image.now.name)) }
+    ensures plan { IfOk result (λ x. x.1.changes ≡ library_changes (with_entry store.now.library (new_entry image.now.name))) }
 {
-    let library = library_with(alloc, &store.library, name)?;
+    let library = library_with(alloc, &store.library, image.name.bytes())?;
     let plan = library_plan(alloc, &library)?;
     Ok((library, plan))
 }
 
-// Opens the medium of an image that is not refused.
-fn add_image(alloc: Global, store: &Store, image: Image) -> Decided
+// An image whose name no medium has, unless it is refused.
+fn check_image(store: &Store, image: Image) -> Result<Image, Undone<Refusal>>
     requires sound { IsSoundStore store.now }
     requires name { IsTrue (is_medium_name image.name) }
     requires free { has_name medium_entry_name image.name store.now.library.media ≡ false }
-    requires allowed { first_refusal (image_checks store.now.library store.now.images image.header) ≡ None }
-    ensures decides { (files : Files) → Holds store.now.library store.now.images files
-        → IsRead (files image.name) (Ok image.header) → Decides files store.now (OpenMedium image.name) result }
-    ensures sound { DecidesSound store.now result }
-    ensures no_fault { deciding_failed result ≡ false }
-{
-    let id = id_of(&image);
-    match add_entry(alloc, store, image.name.bytes()) {
-        Ok((library, plan)) => Decided::Turn {
-            library,
-            edit: Edit::Put(image),
-            plan,
-            answer: Answer::Id(id),
-        },
-        Err(NoMemory) => Decided::NoMemory,
-    }
-}
-
-// Opens the medium of an image, whose name no medium has, unless it is refused.
-fn decide_image(alloc: Global, store: &Store, image: Image) -> Decided
-    requires sound { IsSoundStore store.now }
-    requires name { IsTrue (is_medium_name image.name) }
-    requires free { has_name medium_entry_name image.name store.now.library.media ≡ false }
-    ensures decides { (files : Files) → Holds store.now.library store.now.images files
-        → IsRead (files image.name) (Ok image.header) → Decides files store.now (OpenMedium image.name) result }
-    ensures sound { DecidesSound store.now result }
-    ensures no_fault { deciding_failed result ≡ false }
+    ensures refused { (files : Files) → Holds store.now.library store.now.images files
+        → IsRead (files image.name) (Ok image.header) → IfErr result (Refuses files store.now (OpenMedium image.name)) }
+    ensures same { IfOk result (λ it. it ≡ image) }
+    ensures can { IfOk result (CanOpen store.now) }
+    ensures no_fault { has_failed result ≡ false }
 {
     match image_refusal(store, &image.header) {
-        Some(refusal) => Decided::Stay(Answer::Refused(refusal)),
-        None => add_image(alloc, store, image),
+        Some(refusal) => Err(Undone::Refused(refusal)),
+        None => Ok(image),
     }
 }
 
-// Opens the file of a name that no medium has.
-fn decide_file<D: Disk>(alloc: Global, store: &Store, disk: &mut D, name: &[u8]) -> Decided
+// Why a file is not opened.
+fn undone(fault: OpenFault) -> Undone<Refusal>
+    ensures { result ≡ undone_by fault }
+{
+    match fault {
+        OpenFault::Missing => Undone::Refused(Refusal::NoSuchFile),
+        OpenFault::Bad(bad) => Undone::Refused(Refusal::NotAnImage(bad.number())),
+        OpenFault::Failed => Undone::Failed,
+        OpenFault::NoMemory => Undone::NoMemory,
+    }
+}
+
+// The image of a name that no medium has, unless it is refused.
+fn check_file<D: Disk>(
+    alloc: Global,
+    store: &Store,
+    disk: &mut D,
+    name: &[u8],
+) -> Result<Image, Undone<Refusal>>
     requires sound { IsSoundStore store.now }
     requires name { IsTrue (is_medium_name name.now) }
     requires fits { D.tells → FitsDisk store.now (D.state disk.old) }
     requires free { has_name medium_entry_name name.now store.now.library.media ≡ false }
-    ensures decides { D.tells → Decides (D.state disk.old).files store.now (OpenMedium name.now) result }
-    ensures sound { DecidesSound store.now result }
+    ensures refused { D.tells → IfErr result (Refuses (D.state disk.old).files store.now (OpenMedium name.now)) }
+    ensures name { IfOk result (λ image. image.name ≡ name.now) }
+    ensures can { IfOk result (CanOpen store.now) }
+    ensures read { D.tells → IfOk result (λ image. IsRead ((D.state disk.old).files name.now) (Ok image.header)) }
     ensures reads { OnlyReads D.tells (D.state disk.old) (D.state disk.new) }
-    ensures faults { IsCounted (deciding_failed result) (D.state disk.old).faults (D.state disk.new).faults }
+    ensures faults { IsCounted (has_failed result) (D.state disk.old).faults (D.state disk.new).faults }
 {
     match open_image(alloc, disk, name) {
-        Ok(image) => decide_image(alloc, store, image),
-        Err(OpenFault::Missing) => Decided::Stay(Answer::Refused(Refusal::NoSuchFile)),
-        Err(OpenFault::Bad(bad)) => {
-            Decided::Stay(Answer::Refused(Refusal::NotAnImage(bad.number())))
-        }
-        Err(OpenFault::Failed) => Decided::Failed,
-        Err(OpenFault::NoMemory) => Decided::NoMemory,
+        Ok(image) => check_image(store, image),
+        Err(fault) => Err(undone(fault)),
     }
 }
 
-/// Decides `openmedium`.
-pub fn decide_open<D: Disk>(alloc: Global, store: &Store, disk: &mut D, name: &[u8]) -> Decided
+/// The image that `openmedium` makes a medium of, unless it is refused.
+pub fn check_open<D: Disk>(
+    alloc: Global,
+    store: &Store,
+    disk: &mut D,
+    name: &[u8],
+) -> Result<Image, Undone<Refusal>>
     requires sound { IsSoundStore store.now }
     requires name { IsTrue (is_medium_name name.now) }
     requires fits { D.tells → FitsDisk store.now (D.state disk.old) }
-    ensures decides { D.tells → Decides (D.state disk.old).files store.now (OpenMedium name.now) result }
-    ensures sound { DecidesSound store.now result }
+    ensures refused { D.tells → IfErr result (Refuses (D.state disk.old).files store.now (OpenMedium name.now)) }
+    ensures name { IfOk result (λ image. image.name ≡ name.now) }
+    ensures can { IfOk result (CanOpen store.now) }
+    ensures read { D.tells → IfOk result (λ image. IsRead ((D.state disk.old).files name.now) (Ok image.header)) }
     ensures reads { OnlyReads D.tells (D.state disk.old) (D.state disk.new) }
-    ensures faults { IsCounted (deciding_failed result) (D.state disk.old).faults (D.state disk.new).faults }
+    ensures faults { IsCounted (has_failed result) (D.state disk.old).faults (D.state disk.new).faults }
 {
     match store.library.media.find(name) {
-        Some(_) => Decided::Stay(Answer::Refused(Refusal::NameTaken)),
-        None => decide_file(alloc, store, disk, name),
+        Some(_) => Err(Undone::Refused(Refusal::NameTaken)),
+        None => check_file(alloc, store, disk, name),
     }
+}
+
+/// The turn of `openmedium`, where no check refuses the image.
+pub fn plan_open(alloc: Global, store: &Store, image: Image) -> Result<Turn, NoMemory>
+    requires sound { IsSoundStore store.now }
+    requires name { IsTrue (is_medium_name image.name) }
+    requires can { CanOpen store.now image }
+    ensures plans { (files : Files) → Holds store.now.library store.now.images files
+        → IsRead (files image.name) (Ok image.header) → IfOk result (Plans files store.now (OpenMedium image.name)) }
+    ensures sound { IfOk result (IsSoundTurn store.now) }
+{
+    let id = image.id();
+    let (library, plan) = add_entry(alloc, store, &image)?;
+    Ok(Turn {
+        library,
+        edit: Edit::Put(image),
+        plan,
+        answer: Answer::Id(id),
+    })
 }

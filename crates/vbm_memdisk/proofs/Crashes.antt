@@ -5,13 +5,14 @@ use Rattle.std.specs.Str.{bytes_eq}
 use Rattle.vbm_ports.specs.Files.{Files, bytes_of, cut_to}
 use Rattle.vbm_ports.specs.Crash.{TornFile, TornBytes, WriteLeaves, CutFile, CutLeaves}
 use Rattle.vbm_memdisk.specs.Folders.{wrote, filled, smeared}
-use Rattle.vbm_memdisk.specs.Events.{after, settled, with_byte, step_of, files_after, since_sync, Images}
+use Rattle.vbm_memdisk.specs.Events.{after_event, settled, with_byte, effect_of, files_after, since_sync, Images}
 use Rattle.vbm_memdisk.specs.declared.events.Pick.{Pick}
 use Rattle.vbm_memdisk.specs.declared.events.Pick.TheVariants.{Old, New, Byte}
 use Rattle.vbm_memdisk.specs.declared.events.Event.{Event}
 use Rattle.vbm_memdisk.specs.declared.events.Event.TheVariants.{Wrote, Cut, Removed, Synced, Put}
 use Rattle.vbm_memdisk.specs.Laws.{length-put, wrote_torn, write_leaves, cut_leaves, read_image, short_choice, files_after_short, with_sets, wrote_some}
 use Rattle.vbm_memdisk.proofs.ByteLists.{length-filled, filled_before, filled_after}
+use Rattle.vbm_ports.specs.declared.disk.TheConstants.{LONGEST_FILE}
 
 filled_torn : (at n byte : ℕ) (file old new : List ℕ) → TornBytes at n file old new → TornBytes at n file old (filled (min at (length old)) (at + n) byte new)
 filled_torn at n byte file old new torn =
@@ -127,21 +128,21 @@ byte_image byte first (Synced ∷ earlier) = (files_after first earlier, read_im
 byte_image byte first (Put file ∷ earlier) = (since_sync (with_byte byte) first earlier, byte_image byte first earlier, with_sets file.name (Some file.bytes) (since_sync (with_byte byte) first earlier))
 
 -- the events since the last sync, replayed as they were, give what reads give
-pub new_since : (first : Files) (events : List Event) → since_sync after first events ≡ files_after first events
+pub new_since : (first : Files) (events : List Event) → since_sync after_event first events ≡ files_after first events
 new_since first [] = refl
-new_since first (Wrote write ∷ earlier) = ap (λ (files : Files). after (Wrote write) files) (new_since first earlier)
-new_since first (Cut name len ∷ earlier) = ap (λ (files : Files). after (Cut name len) files) (new_since first earlier)
-new_since first (Removed name ∷ earlier) = ap (λ (files : Files). after (Removed name) files) (new_since first earlier)
+new_since first (Wrote write ∷ earlier) = ap (λ (files : Files). after_event (Wrote write) files) (new_since first earlier)
+new_since first (Cut name len ∷ earlier) = ap (λ (files : Files). after_event (Cut name len) files) (new_since first earlier)
+new_since first (Removed name ∷ earlier) = ap (λ (files : Files). after_event (Removed name) files) (new_since first earlier)
 new_since first (Synced ∷ earlier) = refl
-new_since first (Put file ∷ earlier) = ap (λ (files : Files). after (Put file) files) (new_since first earlier)
+new_since first (Put file ∷ earlier) = ap (λ (files : Files). after_event (Put file) files) (new_since first earlier)
 
 -- what each pick gives is an image
-pub picked_image : (pick : Pick) (first : Files) (events : List Event) → Images first events (since_sync (step_of pick) first events)
+pub picked_image : (pick : Pick) (first : Files) (events : List Event) → Images first events (since_sync (effect_of pick) first events)
 picked_image Old first events = old_image first events
 picked_image New first events = subst (λ (image : Files). Images first events image) (sym (new_since first events)) (read_image first events)
 picked_image (Byte byte) first events = byte_image byte first events
 
-old_short : (first : Files) (events : List Event) → ((name : List ℕ) → length (bytes_of (first name)) ≤ 2 ^ 60) → (name : List ℕ) → length (bytes_of (since_sync settled first events name)) ≤ 2 ^ 60
+old_short : (first : Files) (events : List Event) → ((name : List ℕ) → length (bytes_of (first name)) ≤ LONGEST_FILE) → (name : List ℕ) → length (bytes_of (since_sync settled first events name)) ≤ LONGEST_FILE
 old_short first [] short = short
 old_short first (Wrote write ∷ earlier) short = old_short first earlier short
 old_short first (Cut name len ∷ earlier) short = old_short first earlier short
@@ -150,7 +151,7 @@ old_short first (Synced ∷ earlier) short = files_after_short first earlier sho
 old_short first (Put file ∷ earlier) short = λ name. short_choice (bytes_eq file.name name) (Some file.bytes) (since_sync settled first earlier name) file.short (old_short first earlier short name)
 
 -- nor does a pick give one
-pub picked_short : (pick : Pick) (first : Files) (events : List Event) → ((name : List ℕ) → length (bytes_of (first name)) ≤ 2 ^ 60) → (name : List ℕ) → length (bytes_of (since_sync (step_of pick) first events name)) ≤ 2 ^ 60
+pub picked_short : (pick : Pick) (first : Files) (events : List Event) → ((name : List ℕ) → length (bytes_of (first name)) ≤ LONGEST_FILE) → (name : List ℕ) → length (bytes_of (since_sync (effect_of pick) first events name)) ≤ LONGEST_FILE
 picked_short Old first events short name = old_short first events short name
-picked_short New first events short name = subst (λ (files : Files). length (bytes_of (files name)) ≤ 2 ^ 60) (sym (new_since first events)) (files_after_short first events short name)
+picked_short New first events short name = subst (λ (files : Files). length (bytes_of (files name)) ≤ LONGEST_FILE) (sym (new_since first events)) (files_after_short first events short name)
 picked_short (Byte byte) first events short name = let level = byte_level byte first events name in let bound = files_after_short first events short name in omega arith

@@ -7,10 +7,11 @@ use Rattle.vbm_ports.specs.Crash.{WriteLeaves, Follows, Only}
 use Rattle.vbm_ports.specs.Disk.{Passes, OnlyReads}
 use Rattle.vbm_memdisk.specs.Folders.{wrote}
 use Rattle.vbm_memdisk.specs.Events.{Images, LeftSince, Leaves}
-use Rattle.vbm_memdisk.specs.Past.{Past, with_event, files_now, state_of, Writes}
+use Rattle.vbm_memdisk.specs.Past.{Past, with_event, files_now, state_of, AddsWrite}
 use Rattle.vbm_memdisk.specs.declared.events.Event.{Event}
 use Rattle.vbm_memdisk.specs.declared.events.Event.TheVariants.{Wrote, Synced}
 use Rattle.vbm_memdisk.specs.Laws.{read_image, with_sets, wrote_some, write_leaves, wrote_torn}
+use Rattle.vbm_ports.specs.declared.disk.TheConstants.{LONGEST_FILE}
 
 -- no event came
 pub same_passes : (old new : Past) (calls faults calls' faults' : ℕ) (P : Files → Type 0) → new ≡ old → Passes (state_of old calls faults) (state_of new calls' faults') P
@@ -81,7 +82,7 @@ sync_reads old new calls faults calls' faults' more more_calls more_faults =
       fewer image now = subst (λ (j : Files). Images old.first old.events j) (sym now.2) (read_image old.first old.events)
 
 -- the files after a write
-pub write_sets : (name : List ℕ) (at : ℕ) (bytes : List ℕ) (kept : ℕ) (old new : Past) → Writes name at bytes kept old new
+pub write_sets : (name : List ℕ) (at : ℕ) (bytes : List ℕ) (kept : ℕ) (old new : Past) → AddsWrite name at bytes kept old new
     → Sets name (wrote at (take kept bytes) (files_now old name)) (files_now old) (files_now new)
 write_sets name at bytes kept old new it =
     subst (λ (p : Past). Sets name (wrote at (take kept bytes) (files_now old name)) (files_now old) (files_now p)) (sym it.now)
@@ -92,7 +93,7 @@ write_sets name at bytes kept old new it =
     (with_sets it.write.name (wrote it.write.at (take it.write.kept it.write.bytes) (files_now old it.write.name)) (files_now old))))))
 
 -- the files after a whole write of some bytes
-pub whole_write_sets : (name : List ℕ) (at : ℕ) (bytes : List ℕ) (old new : Past) → 0 < length bytes → Writes name at bytes (length bytes) old new
+pub whole_write_sets : (name : List ℕ) (at : ℕ) (bytes : List ℕ) (old new : Past) → 0 < length bytes → AddsWrite name at bytes (length bytes) old new
     → Sets name (Some (put at bytes (bytes_of (files_now old name)))) (files_now old) (files_now new)
 whole_write_sets name at bytes old new some it =
     subst (λ (o : Option (List ℕ)). Sets name o (files_now old) (files_now new))
@@ -100,7 +101,7 @@ whole_write_sets name at bytes old new some it =
     (write_sets name at bytes (length bytes) old new it)
 
 -- what a write leaves of an image
-pub write_follows : (name : List ℕ) (at : ℕ) (bytes : List ℕ) (kept : ℕ) (old new : Past) → Writes name at bytes kept old new
+pub write_follows : (name : List ℕ) (at : ℕ) (bytes : List ℕ) (kept : ℕ) (old new : Past) → AddsWrite name at bytes kept old new
     → Follows (WriteLeaves name at (length bytes) (files_now old)) (Images old.first old.events) (Images new.first new.events)
 write_follows name at bytes kept old new it =
     subst (λ (n : List ℕ). Follows (WriteLeaves n at (length bytes) (files_now old)) (Images old.first old.events) (Images new.first new.events)) it.named
@@ -109,7 +110,7 @@ write_follows name at bytes kept old new it =
     (event_follows old new (Wrote it.write) it.now)))
 
 -- what a write leaves of the files
-pub write_leaves_files : (name : List ℕ) (at : ℕ) (bytes : List ℕ) (kept : ℕ) (old new : Past) → Writes name at bytes kept old new
+pub write_leaves_files : (name : List ℕ) (at : ℕ) (bytes : List ℕ) (kept : ℕ) (old new : Past) → AddsWrite name at bytes kept old new
     → WriteLeaves name at (length bytes) (files_now old) (files_now old) (files_now new)
 write_leaves_files name at bytes kept old new it =
     subst (λ (p : Past). WriteLeaves name at (length bytes) (files_now old) (files_now old) (files_now p)) (sym it.now)
@@ -120,6 +121,6 @@ write_leaves_files name at bytes kept old new it =
     (wrote_torn it.write.at (length it.write.bytes) (take it.write.kept it.write.bytes) (files_now old it.write.name) (files_now old it.write.name) (omega (arith, length-take it.write.kept it.write.bytes)))))))
 
 -- the length of a short file
-pub short_length : (file : Option (List ℕ)) → length (bytes_of file) ≤ 2 ^ 60 → IfSome (option_map length file) (λ n. n ≤ 2 ^ 60)
+pub short_length : (file : Option (List ℕ)) → length (bytes_of file) ≤ LONGEST_FILE → IfSome (option_map length file) (λ n. n ≤ LONGEST_FILE)
 short_length None short = tt
 short_length (Some bytes) short = short

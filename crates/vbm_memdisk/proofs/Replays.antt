@@ -5,8 +5,8 @@ use Rattle.std.specs.Str.{bytes_eq}
 use Rattle.std.proofs.lemmas.List.{take_more, reverse-append, drop-append-le, drop_all}
 use Rattle.vbm_ports.specs.Files.{Files}
 use Rattle.vbm_memdisk.specs.Folders.{files_of, or_else}
-use Rattle.vbm_memdisk.specs.Events.{after, step_of, is_sync, replays, files_after, since_sync}
-use Rattle.vbm_memdisk.specs.Past.{Past, picked_files, with_event, Writes, Puts}
+use Rattle.vbm_memdisk.specs.Events.{after_event, effect_of, is_sync, replays, files_after, since_sync}
+use Rattle.vbm_memdisk.specs.Past.{Past, picked_files, with_event, AddsWrite, Puts}
 use Rattle.vbm_memdisk.specs.declared.folder.MemFile.{MemFile}
 use Rattle.vbm_memdisk.specs.declared.events.Pick.{Pick}
 use Rattle.vbm_memdisk.specs.declared.events.Pick.TheVariants.{Old, New, Byte}
@@ -41,7 +41,7 @@ since_here step first (Removed name) earlier is = absurd (cc is)
 since_here step first Synced earlier is = refl
 since_here step first (Put file) earlier is = absurd (cc is)
 
-after_here : (event : Event) (files : Files) → is_sync event ≡ true → after event files ≡ files
+after_here : (event : Event) (files : Files) → is_sync event ≡ true → after_event event files ≡ files
 after_here (Wrote write) files is = absurd (cc is)
 after_here (Cut name len) files is = absurd (cc is)
 after_here (Removed name) files is = absurd (cc is)
@@ -75,22 +75,22 @@ new_sync step first events i event within is sync =
     ∙ sym (ap (λ (l : List Event). replays step (files_after first (reverse (take (i + 1) events))) (reverse l)) (drop_all (i + 1) (take (i + 1) events) (omega (arith, length-take (i + 1) events))))
 
 -- events that are replayed as they were
-pub replays_after : (first : Files) (events : List Event) → replays after first events ≡ files_after first events
+pub replays_after : (first : Files) (events : List Event) → replays after_event first events ≡ files_after first events
 replays_after first [] = refl
-replays_after first (event ∷ earlier) = ap (λ (files : Files). after event files) (replays_after first earlier)
+replays_after first (event ∷ earlier) = ap (λ (files : Files). after_event event files) (replays_after first earlier)
 
 -- the picked files are replayed
-pub picked_since : (pick : Pick) (past : Past) → since_sync (step_of pick) past.first past.events ≡ picked_files pick past
+pub picked_since : (pick : Pick) (past : Past) → since_sync (effect_of pick) past.first past.events ≡ picked_files pick past
 picked_since Old past = refl
 picked_since New past = new_since past.first past.events
 picked_since (Byte byte) past = refl
 
 -- the cache, after one event more
-pub cached_more : (first : Files) (old new : List Event) (event : Event) (before now : Files) → new ≡ old ++ event ∷ [] → now ≡ after event before
+pub cached_more : (first : Files) (old new : List Event) (event : Event) (before now : Files) → new ≡ old ++ event ∷ [] → now ≡ after_event event before
     → ((name : List ℕ) → before name ≡ files_after first (reverse old) name) → (name : List ℕ) → now name ≡ files_after first (reverse new) name
 cached_more first old new event before now more happened cached name =
     let all : before ≡ files_after first (reverse old) = λ k other. cached other k in
-    ap (λ (files : Files). files name) happened ∙ ap (λ (files : Files). after event files name) all
+    ap (λ (files : Files). files name) happened ∙ ap (λ (files : Files). after_event event files name) all
     ∙ sym (ap (λ (l : List Event). files_after first l name) (newest_first old new event more))
 
 -- and after none
@@ -109,7 +109,7 @@ joined (file ∷ files) ys name = choose (bytes_eq file.name name) (files_of (fi
 
 -- the newest event is a write
 pub writes_it : (write : Write) (name : List ℕ) (at : ℕ) (bytes : List ℕ) (kept : ℕ) (old new : Past) → new ≡ with_event (Wrote write) old
-    → write.name ≡ name → write.at ≡ at → write.bytes ≡ bytes → write.kept ≡ kept → Writes name at bytes kept old new
+    → write.name ≡ name → write.at ≡ at → write.bytes ≡ bytes → write.kept ≡ kept → AddsWrite name at bytes kept old new
 writes_it write name at bytes kept old new now named place content part =
     record { write = write; named = named; place = place; content = content; part = part; now = now }
 

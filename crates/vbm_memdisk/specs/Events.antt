@@ -11,12 +11,12 @@ use Rattle.vbm_memdisk.specs.declared.events.Event.{Event}
 use Rattle.vbm_memdisk.specs.declared.events.Event.TheVariants.{Wrote, Cut, Removed, Synced, Put}
 
 -- what reads give after an event
-abbrev pub after : Event → Files → Files
-after (Wrote write) files = with_file write.name (wrote write.at (take write.kept write.bytes) (files write.name)) files
-after (Cut name len) files = with_file name (cut_to len (files name)) files
-after (Removed name) files = with_file name None files
-after Synced files = files
-after (Put file) files = with_file file.name (Some file.bytes) files
+abbrev pub after_event : Event → Files → Files
+after_event (Wrote write) files = with_file write.name (wrote write.at (take write.kept write.bytes) (files write.name)) files
+after_event (Cut name len) files = with_file name (cut_to len (files name)) files
+after_event (Removed name) files = with_file name None files
+after_event Synced files = files
+after_event (Put file) files = with_file file.name (Some file.bytes) files
 
 -- what stands at once, with no sync: only a file that was put
 abbrev pub settled : Event → Files → Files
@@ -27,12 +27,12 @@ settled _ files = files
 abbrev pub with_byte : ℕ → Event → Files → Files
 with_byte byte (Wrote write) files =
     with_file write.name (smeared byte write.at (length write.bytes) (take write.kept write.bytes) (files write.name)) files
-with_byte byte event files = after event files
+with_byte byte event files = after_event event files
 
 -- what reads give after some events
 abbrev pub files_after : Files → List Event → Files
 files_after first [] = first
-files_after first (event ∷ earlier) = after event (files_after first earlier)
+files_after first (event ∷ earlier) = after_event event (files_after first earlier)
 
 abbrev pub is_sync : Event → Bool
 is_sync Synced = true
@@ -58,10 +58,10 @@ abbrev pub files_with_byte : ℕ → Files → List Event → Files
 files_with_byte byte first events = since_sync (with_byte byte) first events
 
 -- one effect of the events since the last sync for each pick
-abbrev pub step_of : Pick → Event → Files → Files
-step_of Old = settled
-step_of New = after
-step_of (Byte byte) = with_byte byte
+abbrev pub effect_of : Pick → Event → Files → Files
+effect_of Old = settled
+effect_of New = after_event
+effect_of (Byte byte) = with_byte byte
 
 -- What a crash leaves after an event, of an image of before it; `files` are those that were read before it.
 abbrev pub Leaves : Event → Files → Files → Files → Type 0

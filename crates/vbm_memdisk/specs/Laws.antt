@@ -1,4 +1,4 @@
--- A disk in memory keeps the laws of a disk: what is read is an image, and no file is longer than 2^60 bytes.
+-- A disk in memory keeps the laws of a disk: what is read is an image, and no file is longer than LONGEST_FILE bytes.
 use Rattle.std.specs.Prelude.{◌≡◌, ◌≢◌, ℕ, ◌+◌, ◌-◌, ◌^◌, ◌<◌, ◌≤◌, List, [], ◌∷◌, ◌++◌, length, take, drop, replicate, max, Bool, true, false, cond, Option, Some, None, refl}
 use Rattle.std.specs.Str.{bytes_eq}
 use Rattle.std.proofs.Common.{inl, inr, ⊎_elim, sym, ◌∙◌, ap, subst, arith, get_or, length-append, length-take, length-drop}
@@ -9,13 +9,14 @@ use Rattle.vbm_ports.specs.Files.{Files, bytes_of, put, cut_to, Sets}
 use Rattle.vbm_ports.specs.Crash.{TornFile, WriteLeaves, CutFile, CutLeaves}
 use Rattle.vbm_ports.specs.Disk.{IsCoherent}
 use Rattle.vbm_memdisk.specs.Folders.{with_file, wrote}
-use Rattle.vbm_memdisk.specs.Events.{after, files_after, Images, LeftSince}
+use Rattle.vbm_memdisk.specs.Events.{after_event, files_after, Images, LeftSince}
 use Rattle.vbm_memdisk.specs.Past.{Past}
 use Rattle.vbm_memdisk.specs.MemDisk.{past_of, memory_state}
 use Rattle.vbm_memdisk.specs.declared.disk.MemDisk.{MemDisk}
 use Rattle.vbm_memdisk.specs.declared.events.Write.{Write}
 use Rattle.vbm_memdisk.specs.declared.events.Event.{Event}
 use Rattle.vbm_memdisk.specs.declared.events.Event.TheVariants.{Wrote, Cut, Removed, Synced, Put}
+use Rattle.vbm_ports.specs.declared.disk.TheConstants.{LONGEST_FILE}
 
 -- what stands where after bytes are put at a place
 module _ (at : ℕ) (bytes old : List ℕ) where
@@ -144,33 +145,33 @@ pub now_since : (first : Files) (events : List Event) (time : ℕ) (image : File
 now_since first [] time image now = now
 now_since first (event ∷ earlier) time image now = inl now
 
-pub short_choice : (b : Bool) (x y : Option (List ℕ)) → length (bytes_of x) ≤ 2 ^ 60 → length (bytes_of y) ≤ 2 ^ 60 → length (bytes_of (cond b x y)) ≤ 2 ^ 60
+pub short_choice : (b : Bool) (x y : Option (List ℕ)) → length (bytes_of x) ≤ LONGEST_FILE → length (bytes_of y) ≤ LONGEST_FILE → length (bytes_of (cond b x y)) ≤ LONGEST_FILE
 short_choice true x y first second = first
 short_choice false x y first second = second
 
-wrote_short : (write : Write) (old : Option (List ℕ)) → length (bytes_of old) ≤ 2 ^ 60 → length (bytes_of (wrote write.at (take write.kept write.bytes) old)) ≤ 2 ^ 60
+wrote_short : (write : Write) (old : Option (List ℕ)) → length (bytes_of old) ≤ LONGEST_FILE → length (bytes_of (wrote write.at (take write.kept write.bytes) old)) ≤ LONGEST_FILE
 wrote_short write old short = bounded (take write.kept write.bytes) (omega (arith, length-take write.kept write.bytes)) where
-  bounded : (kept : List ℕ) → length kept ≤ length write.bytes → length (bytes_of (wrote write.at kept old)) ≤ 2 ^ 60
+  bounded : (kept : List ℕ) → length kept ≤ length write.bytes → length (bytes_of (wrote write.at kept old)) ≤ LONGEST_FILE
   bounded [] part = short
   bounded (byte ∷ bytes) part =
       let grown : length (bytes_of (wrote write.at (byte ∷ bytes) old)) ≡ length (put write.at (byte ∷ bytes) (bytes_of old)) = ap (λ (o : Option (List ℕ)). length (bytes_of o)) (wrote_some write.at (byte ∷ bytes) old (omega arith)) in
       let all : length (put write.at (byte ∷ bytes) (bytes_of old)) ≡ max (length (bytes_of old)) (write.at + length (byte ∷ bytes)) = length-put write.at (byte ∷ bytes) (bytes_of old) in
-      let end : write.at + length write.bytes ≤ 2 ^ 60 = write.end in
+      let end : write.at + length write.bytes ≤ LONGEST_FILE = write.end in
       omega arith
 
-cut_short : (len : ℕ) (old : Option (List ℕ)) → length (bytes_of old) ≤ 2 ^ 60 → length (bytes_of (cut_to len old)) ≤ 2 ^ 60
+cut_short : (len : ℕ) (old : Option (List ℕ)) → length (bytes_of old) ≤ LONGEST_FILE → length (bytes_of (cut_to len old)) ≤ LONGEST_FILE
 cut_short len None short = short
 cut_short len (Some old) short = omega (arith, short, length-take len old)
 
--- no event makes a file longer than 2^60 bytes
-pub after_short : (event : Event) (files : Files) → ((name : List ℕ) → length (bytes_of (files name)) ≤ 2 ^ 60) → (name : List ℕ) → length (bytes_of (after event files name)) ≤ 2 ^ 60
+-- no event makes a file longer than LONGEST_FILE bytes
+pub after_short : (event : Event) (files : Files) → ((name : List ℕ) → length (bytes_of (files name)) ≤ LONGEST_FILE) → (name : List ℕ) → length (bytes_of (after_event event files name)) ≤ LONGEST_FILE
 after_short (Wrote write) files short name = short_choice (bytes_eq write.name name) (wrote write.at (take write.kept write.bytes) (files write.name)) (files name) (wrote_short write (files write.name) (short write.name)) (short name)
 after_short (Cut cut len) files short name = short_choice (bytes_eq cut name) (cut_to len (files cut)) (files name) (cut_short len (files cut) (short cut)) (short name)
 after_short (Removed removed) files short name = short_choice (bytes_eq removed name) None (files name) (omega arith) (short name)
 after_short Synced files short name = short name
 after_short (Put file) files short name = short_choice (bytes_eq file.name name) (Some file.bytes) (files name) file.short (short name)
 
-pub files_after_short : (first : Files) (events : List Event) → ((name : List ℕ) → length (bytes_of (first name)) ≤ 2 ^ 60) → (name : List ℕ) → length (bytes_of (files_after first events name)) ≤ 2 ^ 60
+pub files_after_short : (first : Files) (events : List Event) → ((name : List ℕ) → length (bytes_of (first name)) ≤ LONGEST_FILE) → (name : List ℕ) → length (bytes_of (files_after first events name)) ≤ LONGEST_FILE
 files_after_short first [] short = short
 files_after_short first (event ∷ earlier) short = after_short event (files_after first earlier) (files_after_short first earlier short)
 

@@ -48,7 +48,7 @@ state_of past calls faults = record {
 }
 
 -- the newest event is this write
-pub record Writes (name : List ℕ) (at : ℕ) (bytes : List ℕ) (kept : ℕ) (old new : Past) : Type 0 where
+pub record AddsWrite (name : List ℕ) (at : ℕ) (bytes : List ℕ) (kept : ℕ) (old new : Past) : Type 0 where
   pub write : Write
   pub named : write.name ≡ name
   pub place : write.at ≡ at

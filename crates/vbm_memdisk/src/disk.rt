@@ -9,8 +9,9 @@ ghost use Rattle.vbm_ports.specs.Crash.{WriteLeaves, CutLeaves, RemoveLeaves, Fo
 ghost use Rattle.vbm_ports.specs.Disk.{DiskState, Passes, CountsCall, OnlyReads};
 ghost use Rattle.vbm_memdisk.specs.declared.events.Event.TheVariants.{Cut, Removed, Synced};
 ghost use Rattle.vbm_memdisk.specs.Folders.{AreNames};
-ghost use Rattle.vbm_memdisk.specs.Past.{past_in, settled_past, with_event, picked_files, Writes, Puts};
+ghost use Rattle.vbm_memdisk.specs.Past.{past_in, settled_past, with_event, picked_files, AddsWrite, Puts};
 ghost use Rattle.vbm_memdisk.specs.MemDisk.{past_of, memory_state, failing_calls, stop_of, refused_of, IsListed, IsStopped, MustFail, KeepsFailures, KeepsCounts};
+ghost use Rattle.vbm_ports.specs.declared.disk.TheConstants.{LONGEST_FILE};
 
 use crate::Pick;
 use crate::history::History;
@@ -64,7 +65,7 @@ impl MemDisk {
 
     /// Makes or replaces a file, which is settled: it has these bytes in each image.
     pub fn put_file(&mut self, name: &[u8], bytes: &[u8]) -> Result<(), NoMemory>
-        requires { length bytes.now ≤ 2 ^ 60 }
+        requires { length bytes.now ≤ LONGEST_FILE }
         ensures ok { OnOk result (Sets name.now (Some bytes.now) (memory_state self.old).files (memory_state self.new).files) }
         ensures images { OnOk result (Follows (Sets name.now (Some bytes.now)) (memory_state self.old).may_leave (memory_state self.new).may_leave) }
         ensures time { Passes (memory_state self.old) (memory_state self.new) (memory_state self.new).may_leave }
@@ -235,7 +236,7 @@ impl Disk for MemDisk {
         requires { IsStoreName name.now }
         ensures answer { Unit {0}
             → IfOk result (λ len. len ≡ option_map length ((memory_state self.old).files name.now)) }
-        ensures bound { IfOk result (λ len. IfSome len (λ n. n ≤ 2 ^ 60)) }
+        ensures bound { IfOk result (λ len. IfSome len (λ n. n ≤ LONGEST_FILE)) }
         ensures reads { OnlyReads (Unit {0}) (memory_state self.old) (memory_state self.new) }
         ensures calls { (memory_state self.new).calls ≡ counted (memory_state self.old).calls }
         ensures cause { OnErr result (Rose (memory_state self.old).faults (memory_state self.new).faults) }
@@ -271,7 +272,7 @@ impl Disk for MemDisk {
     fn write(&mut self, name: &[u8], at: u64, bytes: &[u8]) -> Result<(), Failed>
         requires name { IsStoreName name.now }
         requires some { 0 < length bytes.now }
-        requires end { at + length bytes.now ≤ 2 ^ 60 }
+        requires end { at + length bytes.now ≤ LONGEST_FILE }
         ensures ok { Unit {0}
             → OnOk result (IsWritten name.now at bytes.now (memory_state self.old).files (memory_state self.new).files) }
         ensures err { Unit {0}
@@ -287,10 +288,10 @@ impl Disk for MemDisk {
         ensures why { IsErr result → MustFail self.old ⊎ Rose (refused_of self.old) (refused_of self.new) }
         // All is written, or the first half where the call is listed. A stopped call, and one that found no memory, changes
         // nothing.
-        ensures whole { OnOk result (Writes name.now at bytes.now (length bytes.now) (past_of self.old) (past_of self.new)) }
+        ensures whole { OnOk result (AddsWrite name.now at bytes.now (length bytes.now) (past_of self.old) (past_of self.new)) }
         ensures half { IsListed self.old → ¬ IsStopped self.old
             → ¬ Rose (refused_of self.old) (refused_of self.new)
-            → Writes name.now at bytes.now (length bytes.now / 2) (past_of self.old) (past_of self.new) }
+            → AddsWrite name.now at bytes.now (length bytes.now / 2) (past_of self.old) (past_of self.new) }
         ensures stopped { IsStopped self.old → past_of self.new ≡ past_of self.old }
         ensures refused { (refused_of self.new ≡ refused_of self.old)
             ⊎ (Rose (refused_of self.old) (refused_of self.new) × (past_of self.new ≡ past_of self.old)) }

@@ -1,6 +1,7 @@
 //! What happened to the files of a disk in memory.
 
 ghost use Rattle.std.specs.Prelude.{◌+◌, ◌^◌, ◌≤◌, length};
+ghost use Rattle.vbm_ports.specs.declared.disk.TheConstants.{LONGEST_FILE};
 
 use vbm_ports::{Bytes, Text};
 
@@ -23,7 +24,7 @@ pub(crate) struct Write {
     pub(crate) bytes: Bytes,
     pub(crate) kept: usize,
     ghost part: { kept ≤ length bytes },
-    ghost end: { at + length bytes ≤ 2 ^ 60 },
+    ghost end: { at + length bytes ≤ LONGEST_FILE },
 }
 
 /// A whole file that was put.
@@ -31,7 +32,7 @@ pub(crate) struct Write {
 pub(crate) struct Whole {
     pub(crate) name: Text,
     pub(crate) bytes: Bytes,
-    ghost short: { length bytes ≤ 2 ^ 60 },
+    ghost short: { length bytes ≤ LONGEST_FILE },
 }
 
 /// A change of files, or a sync.

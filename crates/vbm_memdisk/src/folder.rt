@@ -4,6 +4,7 @@ ghost use Rattle.std.specs.Prelude.{◌≡◌, ℕ, ◌+◌, ◌-◌, ◌^◌, �
 ghost use Rattle.std.specs.Option.{option_map};
 ghost use Rattle.vbm_ports.specs.Files.{bytes_of, put, cut_to};
 ghost use Rattle.vbm_memdisk.specs.Folders.{files_of, files_in, with_file, wrote, filled, smeared, or_else, file_name, IsFirst};
+ghost use Rattle.vbm_ports.specs.declared.disk.TheConstants.{LONGEST_FILE};
 
 use std::alloc::Global;
 use vbm_ports::{Names, NoMemory, Text};
@@ -86,7 +87,7 @@ impl Folder {
 
     /// Puts bytes at a place of a file, which is made if it is absent and there are any.
     pub(crate) fn write(&mut self, name: &[u8], at: u64, bytes: &[u8]) -> Result<(), NoMemory>
-        requires { at + length bytes.now ≤ 2 ^ 60 }
+        requires { at + length bytes.now ≤ LONGEST_FILE }
         ensures ok { OnOk result (files_in self.new ≡ with_file name.now (wrote at bytes.now (files_in self.old name.now)) (files_in self.old)) }
         ensures err { OnErr result (files_in self.new ≡ files_in self.old) }
     {
@@ -112,7 +113,7 @@ impl Folder {
         byte: u8,
         bytes: &[u8],
     ) -> Result<(), NoMemory>
-        requires fits { at + n ≤ 2 ^ 60 }
+        requires fits { at + n ≤ LONGEST_FILE }
         requires part { length bytes.now ≤ n }
         ensures ok { OnOk result (files_in self.new ≡ with_file name.now (smeared byte at n bytes.now (files_in self.old name.now)) (files_in self.old)) }
         ensures err { OnErr result (files_in self.new ≡ files_in self.old) }
@@ -190,7 +191,7 @@ impl Folder {
 
 // Puts bytes at a place, with zeros in a gap before them.
 fn put_bytes(file: &mut Vec<u8>, at: usize, bytes: &[u8]) -> Result<(), NoMemory>
-    requires { at + length bytes.now ≤ 2 ^ 60 }
+    requires { at + length bytes.now ≤ LONGEST_FILE }
     ensures ok { OnOk result (file.new.items ≡ put at bytes.now file.old.items) }
     ensures err { OnErr result (file.new.items ≡ file.old.items) }
 {

@@ -4,7 +4,8 @@ ghost use Rattle.std.specs.Prelude.{◌≡◌, ◌+◌, ◌^◌, ◌≤◌, ℕ,
 ghost use Rattle.std.proofs.Props.{props};
 ghost use Rattle.vbm_ports.specs.Files.{bytes_of};
 ghost use Rattle.vbm_memdisk.specs.Folders.{files_in, AreNames};
-ghost use Rattle.vbm_memdisk.specs.Events.{after, files_after};
+ghost use Rattle.vbm_memdisk.specs.Events.{after_event, files_after};
+ghost use Rattle.vbm_ports.specs.declared.disk.TheConstants.{LONGEST_FILE};
 
 use crate::Pick;
 use crate::events::{Event, Whole, Write};
@@ -23,12 +24,12 @@ pub(crate) struct History {
     // The newest comes last.
     events: Vec<Event>,
     ghost cached: { (name : List ℕ) → files_in present name ≡ files_after (files_in first) (reverse events.items) name } by { Prim.hlevel props },
-    ghost short: { (name : List ℕ) → length (bytes_of (files_in first name)) ≤ 2 ^ 60 },
+    ghost short: { (name : List ℕ) → length (bytes_of (files_in first name)) ≤ LONGEST_FILE },
 }
 
 impl History {
     ghost use Rattle.vbm_memdisk.specs.declared.events.Event.TheVariants.{Cut, Removed, Synced};
-    ghost use Rattle.vbm_memdisk.specs.Past.{past_in, settled_past, with_event, files_now, picked_files, Writes, Puts};
+    ghost use Rattle.vbm_memdisk.specs.Past.{past_in, settled_past, with_event, files_now, picked_files, AddsWrite, Puts};
 
     /// No files.
     pub(crate) fn new(alloc: Global) -> History
@@ -44,7 +45,7 @@ impl History {
 
     // These files, all settled.
     fn of_settled(alloc: Global, first: Folder) -> Result<History, NoMemory>
-        requires { (name : List ℕ) → length (bytes_of (files_in first name)) ≤ 2 ^ 60 }
+        requires { (name : List ℕ) → length (bytes_of (files_in first name)) ≤ LONGEST_FILE }
         ensures { IfOk result (λ history. past_in history ≡ settled_past (files_in first)) }
     {
         let present = first.copy()?;
@@ -86,9 +87,9 @@ impl History {
         bytes: &[u8],
         kept: usize,
     ) -> Result<(), NoMemory>
-        requires end { at + length bytes.now ≤ 2 ^ 60 }
+        requires end { at + length bytes.now ≤ LONGEST_FILE }
         requires part { kept ≤ length bytes.now }
-        ensures ok { OnOk result (Writes name.now at bytes.now kept (past_in self.old) (past_in self.new)) }
+        ensures ok { OnOk result (AddsWrite name.now at bytes.now kept (past_in self.old) (past_in self.new)) }
         ensures err { OnErr result (past_in self.new ≡ past_in self.old) }
     {
         let name = Text::new(self.alloc, name)?;
@@ -129,7 +130,7 @@ impl History {
 
     /// A file that is put, which is settled at once.
     pub(crate) fn put(&mut self, name: &[u8], bytes: &[u8]) -> Result<(), NoMemory>
-        requires { length bytes.now ≤ 2 ^ 60 }
+        requires { length bytes.now ≤ LONGEST_FILE }
         ensures ok { OnOk result (Puts name.now bytes.now (past_in self.old) (past_in self.new)) }
         ensures err { OnErr result (past_in self.new ≡ past_in self.old) }
     {
@@ -150,7 +151,7 @@ impl History {
 // Makes an event happen, and keeps it.
 fn add_event(present: &mut Folder, events: &mut Vec<Event>, event: Event) -> Result<(), NoMemory>
     ensures kept { OnOk result (events.new.items ≡ events.old.items ++ event ∷ []) }
-    ensures happened { OnOk result (files_in present.new ≡ after event (files_in present.old)) }
+    ensures happened { OnOk result (files_in present.new ≡ after_event event (files_in present.old)) }
     ensures not_kept { OnErr result (events.new.items ≡ events.old.items) }
     ensures same { OnErr result (files_in present.new ≡ files_in present.old) }
 {

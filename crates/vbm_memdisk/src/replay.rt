@@ -4,7 +4,7 @@ ghost use Rattle.std.specs.Prelude.{◌≡◌, ◌≤◌, List, length, take, dr
 ghost use Rattle.vbm_ports.specs.Files.{Files};
 ghost use Rattle.vbm_memdisk.specs.Folders.{files_in, with_file, smeared};
 ghost use Rattle.vbm_memdisk.specs.declared.events.Pick.{Pick};
-ghost use Rattle.vbm_memdisk.specs.Events.{after, settled, with_byte, step_of, is_sync, replays, files_after, since_sync};
+ghost use Rattle.vbm_memdisk.specs.Events.{after_event, settled, with_byte, effect_of, is_sync, replays, files_after, since_sync};
 
 use crate::Pick;
 use crate::events::{Event, Whole, Write};
@@ -13,7 +13,7 @@ use vbm_ports::NoMemory;
 
 /// The files after some events, of which the newest comes last. Those since the last sync leave such bytes as a crash may.
 pub(crate) fn replayed(first: &Folder, events: &[Event], pick: Pick) -> Result<Folder, NoMemory>
-    ensures { IfOk result (λ folder. files_in folder ≡ since_sync (step_of pick) (files_in first.now) (reverse events.now)) }
+    ensures { IfOk result (λ folder. files_in folder ≡ since_sync (effect_of pick) (files_in first.now) (reverse events.now)) }
 {
     let start = last_sync(events);
     let mut folder = first.copy()?;
@@ -26,7 +26,7 @@ pub(crate) fn replayed(first: &Folder, events: &[Event], pick: Pick) -> Result<F
 fn last_sync(events: &[Event]) -> usize
     ensures within { result ≤ length events.now }
     ensures parts { (pick : Pick) → (first : Files)
-        → since_sync (step_of pick) first (reverse events.now) ≡ replays (step_of pick) (files_after first (reverse (take result events.now))) (reverse (drop result events.now)) }
+        → since_sync (effect_of pick) first (reverse events.now) ≡ replays (effect_of pick) (files_after first (reverse (take result events.now))) (reverse (drop result events.now)) }
 {
     let mut start = 0;
     for (i, event) in events.iter().enumerate() {
@@ -45,7 +45,7 @@ fn settles(event: &Event) -> bool
 
 // What events do to files, one after another.
 fn replay(folder: &mut Folder, events: &[Event], pick: Pick) -> Result<(), NoMemory>
-    ensures { OnOk result (files_in folder.new ≡ replays (step_of pick) (files_in folder.old) (reverse events.now)) }
+    ensures { OnOk result (files_in folder.new ≡ replays (effect_of pick) (files_in folder.old) (reverse events.now)) }
 {
     for event in events {
         apply(folder, pick, event)?;
@@ -55,7 +55,7 @@ fn replay(folder: &mut Folder, events: &[Event], pick: Pick) -> Result<(), NoMem
 
 /// What an event since the last sync does to files, of which a crash leaves such bytes.
 pub(crate) fn apply(folder: &mut Folder, pick: Pick, event: &Event) -> Result<(), NoMemory>
-    ensures ok { OnOk result (files_in folder.new ≡ step_of pick event.now (files_in folder.old)) }
+    ensures ok { OnOk result (files_in folder.new ≡ effect_of pick event.now (files_in folder.old)) }
     ensures err { OnErr result (files_in folder.new ≡ files_in folder.old) }
 {
     match pick {
@@ -67,7 +67,7 @@ pub(crate) fn apply(folder: &mut Folder, pick: Pick, event: &Event) -> Result<()
 
 // What an event does to the files that reads give.
 fn happen(folder: &mut Folder, event: &Event) -> Result<(), NoMemory>
-    ensures ok { OnOk result (files_in folder.new ≡ after event.now (files_in folder.old)) }
+    ensures ok { OnOk result (files_in folder.new ≡ after_event event.now (files_in folder.old)) }
     ensures err { OnErr result (files_in folder.new ≡ files_in folder.old) }
 {
     match event {

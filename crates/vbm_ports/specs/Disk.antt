@@ -1,7 +1,8 @@
 -- What a disk means: the files that reads give, and what a crash may leave of them.
-use Rattle.std.specs.Prelude.{◌≡◌, ℕ, ◌^◌, ◌≤◌, ◌⊎◌, List, length}
+use Rattle.std.specs.Prelude.{◌≡◌, ℕ, ◌≤◌, ◌⊎◌, List, length}
 use Rattle.vbm_ports.specs.Counts.{counted}
 use Rattle.vbm_ports.specs.Files.{Files, bytes_of}
+use Rattle.vbm_ports.specs.declared.disk.TheConstants.{LONGEST_FILE}
 
 -- What a disk is at one moment. An image is what a crash leaves of the files.
 pub record DiskState : Type 1 where
@@ -45,5 +46,5 @@ pub record IsCoherent (tells : Type 0) (state : DiskState) : Type 0 where
   pub counts_now : (t : ℕ) (image : Files) → t ≤ state.moment → state.may_leave image → state.left_since t image
   -- since this moment there is no other
   pub only_now : (image : Files) → state.left_since state.moment image → state.may_leave image
-  -- no file is longer than 2^60 bytes
-  pub short : tells → (name : List ℕ) → length (bytes_of (state.files name)) ≤ 2 ^ 60
+  -- no file is longer than LONGEST_FILE bytes
+  pub short : tells → (name : List ℕ) → length (bytes_of (state.files name)) ≤ LONGEST_FILE

@@ -1,6 +1,6 @@
 //! A folder of files as the store sees it.
 
-ghost use Rattle.std.specs.Prelude.{◌≡◌, ◌⊎◌, ◌+◌, ◌<◌, ◌≤◌, ◌^◌, ℕ, List, length, Option, Some, None, IfOk, OnOk, OnErr, IfSome};
+ghost use Rattle.std.specs.Prelude.{◌≡◌, ◌⊎◌, ◌+◌, ◌<◌, ◌≤◌, ℕ, List, length, Option, Some, None, IfOk, OnOk, OnErr, IfSome};
 ghost use Rattle.std.specs.Option.{option_map};
 ghost use Rattle.vbm_ports.specs.Files.{bytes_of, Reads, IsWritten, IsCut, IsRemoved};
 ghost use Rattle.vbm_ports.specs.Names.{IsStoreName};
@@ -9,6 +9,9 @@ ghost use Rattle.vbm_ports.specs.Crash.{WriteLeaves, CutLeaves, RemoveLeaves, Fo
 ghost use Rattle.vbm_ports.specs.Disk.{DiskState, Passes, CountsCall, OnlyReads, IsCoherent};
 
 use crate::Failed;
+
+/// No file that a call meets is longer, in bytes.
+pub const LONGEST_FILE: u64 = 1 << 60;
 
 /// The files of one folder, which nobody else changes.
 ///
@@ -20,12 +23,12 @@ pub trait Disk {
     /// The files, what a crash may leave of them, the time and the counts.
     ghost state: { Self → DiskState };
 
-    /// The length of a file in bytes, at most 2^60, or `None` where there is no such file.
+    /// The length of a file in bytes, at most [`LONGEST_FILE`], or `None` where there is no such file.
     fn length(&mut self, name: &[u8]) -> Result<Option<u64>, Failed>
         requires { IsStoreName name.now }
         ensures answer { tells
             → IfOk result (λ len. len ≡ option_map length ((state self.old).files name.now)) }
-        ensures bound { IfOk result (λ len. IfSome len (λ n. n ≤ 2 ^ 60)) }
+        ensures bound { IfOk result (λ len. IfSome len (λ n. n ≤ LONGEST_FILE)) }
         ensures reads { OnlyReads tells (state self.old) (state self.new) }
         ensures calls { (state self.new).calls ≡ counted (state self.old).calls }
         ensures cause { OnErr result (Rose (state self.old).faults (state self.new).faults) }
@@ -47,7 +50,7 @@ pub trait Disk {
     fn write(&mut self, name: &[u8], at: u64, bytes: &[u8]) -> Result<(), Failed>
         requires name { IsStoreName name.now }
         requires some { 0 < length bytes.now }
-        requires end { at + length bytes.now ≤ 2 ^ 60 }
+        requires end { at + length bytes.now ≤ LONGEST_FILE }
         ensures ok { tells
             → OnOk result (IsWritten name.now at bytes.now (state self.old).files (state self.new).files) }
         ensures err { tells

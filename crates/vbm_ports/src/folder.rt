@@ -1,10 +1,12 @@
 //! A folder of the system as a disk. Each call opens the file that it needs, and closes it.
 
-ghost use Rattle.std.specs.Prelude.{◌≡◌, ◌+◌, ◌^◌, ◌≤◌, None, IfOk, IfSome, OnErr, OnOk, IsErr, IsOk, length, vec_len};
+ghost use Rattle.std.specs.Prelude.{◌≡◌, ◌+◌, ◌≤◌, None, IfOk, IfSome, OnErr, OnOk, IsErr, IsOk, length, vec_len};
 ghost use Rattle.vbm_ports.specs.Counts.{counted, Rose};
 ghost use Rattle.vbm_ports.specs.Names.{IsStoreName};
+ghost use Rattle.vbm_ports.specs.declared.names.TheConstants.{LONGEST_NAME};
 
-use crate::names::names_store_file;
+use crate::disk::LONGEST_FILE;
+use crate::names::{LONGEST_NAME, names_store_file};
 use crate::retried::read_some;
 use crate::{Disk, Failed, NoMemory, Text};
 use std::alloc::Global;
@@ -12,28 +14,22 @@ use std::fs::{OpenFile, OpenOptions};
 use std::io::{self, ErrorKind, Read, Seek, SeekFrom, Write};
 use std::rt::Files;
 
-/// No name of a store is longer, in bytes.
-const LONGEST_NAME: usize = 64;
-
-/// No file that a call meets is longer, in bytes.
-const LONGEST_FILE: u64 = 1 << 60;
-
 /// How many files are listed until a sync. With more, the listed ones are settled before.
 const MOST_UNSETTLED: usize = 64;
 
 /// A store name.
 #[derive(Clone, Copy)]
 struct StoreName {
-    bytes: [u8; 64],
+    bytes: [u8; LONGEST_NAME],
     len: usize,
-    ghost short: { len ≤ 64 },
+    ghost short: { len ≤ LONGEST_NAME },
 }
 
 impl StoreName {
     fn new(name: &[u8]) -> StoreName
-        requires { length name.now ≤ 64 }
+        requires { length name.now ≤ LONGEST_NAME }
     {
-        let mut bytes = [0; 64];
+        let mut bytes = [0; LONGEST_NAME];
         bytes[..name.len()].copy_from_slice(name);
         StoreName {
             bytes,
@@ -42,7 +38,7 @@ impl StoreName {
     }
 
     fn as_slice(&self) -> &[u8]
-        ensures { length result.now ≤ 64 }
+        ensures { length result.now ≤ LONGEST_NAME }
     {
         &self.bytes[..self.len]
     }
@@ -53,7 +49,7 @@ impl StoreName {
 struct PathRoom {
     bytes: Vec<u8>,
     folder_len: usize,
-    ghost room: { folder_len + 64 ≤ vec_len bytes },
+    ghost room: { folder_len + LONGEST_NAME ≤ vec_len bytes },
 }
 
 impl PathRoom {
@@ -71,7 +67,7 @@ impl PathRoom {
     }
 
     fn file(&mut self, name: &[u8]) -> Result<&str, Failed>
-        requires { length name.now ≤ 64 }
+        requires { length name.now ≤ LONGEST_NAME }
     {
         let end = self.folder_len + name.len();
         self.bytes.as_mut_slice()[self.folder_len..end].copy_from_slice(name);
@@ -102,8 +98,8 @@ impl Folder {
     }
 
     fn length<R: Files>(&mut self, rt: &R, name: &[u8]) -> Result<Option<u64>, Failed>
-        requires { length name.now ≤ 64 }
-        ensures { IfOk result (λ found. IfSome found (λ n. n ≤ 2 ^ 60)) }
+        requires { length name.now ≤ LONGEST_NAME }
+        ensures { IfOk result (λ found. IfSome found (λ n. n ≤ LONGEST_FILE)) }
     {
         length_at(rt, self.path.file(name)?)
     }
@@ -115,7 +111,7 @@ impl Folder {
         at: u64,
         out: &mut [u8],
     ) -> Result<usize, Failed>
-        requires { length name.now ≤ 64 }
+        requires { length name.now ≤ LONGEST_NAME }
         ensures { IfOk result (λ n. n ≤ length out.old) }
     {
         let path = self.path.file(name)?;
@@ -129,7 +125,7 @@ impl Folder {
     }
 
     fn write<R: Files>(&mut self, rt: &R, name: &[u8], at: u64, bytes: &[u8]) -> Result<(), Failed>
-        requires { length name.now ≤ 64 }
+        requires { length name.now ≤ LONGEST_NAME }
     {
         let is_new = self.length(rt, name)?.is_none();
         self.list(rt, name)?;
@@ -138,7 +134,7 @@ impl Folder {
     }
 
     fn cut<R: Files>(&mut self, rt: &R, name: &[u8], len: u64) -> Result<(), Failed>
-        requires { length name.now ≤ 64 }
+        requires { length name.now ≤ LONGEST_NAME }
     {
         if self.length(rt, name)?.is_none_or(|old| old <= len) {
             return Ok(());
@@ -148,7 +144,7 @@ impl Folder {
     }
 
     fn remove<R: Files>(&mut self, rt: &R, name: &[u8]) -> Result<(), Failed>
-        requires { length name.now ≤ 64 }
+        requires { length name.now ≤ LONGEST_NAME }
     {
         if self.length(rt, name)?.is_none() {
             return Ok(());
@@ -161,7 +157,7 @@ impl Folder {
 
     // Lists a file that the next sync is to settle. A full list is settled first.
     fn list<R: Files>(&mut self, rt: &R, name: &[u8]) -> Result<(), Failed>
-        requires { length name.now ≤ 64 }
+        requires { length name.now ≤ LONGEST_NAME }
     {
         if self.unsettled.iter().any(|known| known.as_slice() == name) {
             return Ok(());
@@ -242,7 +238,7 @@ fn unless_missing<T: Drop>(found: io::Result<T>) -> Result<Option<T>, Failed> {
 
 // The length of a regular file. A link, a folder or a pipe of that name is a fault: to open a pipe might wait for ever.
 fn length_at<R: Files>(rt: &R, path: &str) -> Result<Option<u64>, Failed>
-    ensures { IfOk result (λ found. IfSome found (λ n. n ≤ 2 ^ 60)) }
+    ensures { IfOk result (λ found. IfSome found (λ n. n ≤ LONGEST_FILE)) }
 {
     match unless_missing(rt.symlink_metadata(path))? {
         None => Ok(None),

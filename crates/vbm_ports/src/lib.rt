@@ -14,9 +14,12 @@ mod standard;
 mod stream;
 
 pub use copied::Copied;
-pub use disk::Disk;
+pub use disk::{Disk, LONGEST_FILE};
 pub use folder::FolderDisk;
-pub use names::{names_machine, names_medium, names_store_file};
+pub use names::{
+    LIBRARY_NAME, LOG_NAME, LONGEST_NAME, LONGEST_SHORT_NAME, names_machine, names_medium,
+    names_store_file,
+};
 pub use sequence::{Bytes, Names, Sequence, Text};
 pub use standard::{StdinSource, StdoutSink};
 pub use stream::{Sink, Source, put_all};

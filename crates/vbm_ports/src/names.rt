@@ -4,6 +4,18 @@ ghost use Rattle.std.specs.Prelude.{◌≡◌, ◌<◌, length, codes, nat_eq};
 ghost use Rattle.std.specs.List.{list_all, ends_with};
 ghost use Rattle.vbm_ports.specs.Names.{is_medium_name, is_short_name, is_inner_name, is_store_name, is_name_character, is_lower_hex, is_hyphenated};
 
+/// The file that lists what a store has.
+pub const LIBRARY_NAME: &[u8] = b"library.vbm";
+
+/// The file of a store's log.
+pub const LOG_NAME: &[u8] = b"intent.vbm";
+
+/// No file of a store has a longer name, in bytes.
+pub const LONGEST_NAME: usize = 64;
+
+/// No machine and no snapshot has a longer name, in bytes.
+pub const LONGEST_SHORT_NAME: usize = 32;
+
 fn is_name_byte(c: u8) -> bool
     ensures { result ≡ is_name_character c }
 {
@@ -22,25 +34,25 @@ fn ends_in_vdi(name: &[u8]) -> bool
     name.ends_with(b".vdi")
 }
 
-/// Whether a medium may have this name: 5 to 64 letters, digits, `.`, `_` and `-`, with `.vdi` at the end and no `-`
+/// Whether a medium may have this name: 5 to [`LONGEST_NAME`] letters, digits, `.`, `_` and `-`, with `.vdi` at the end and no `-`
 /// at the front.
 #[tactic(auto, unfolding(crate::specs::Names::is_medium_name))]
 pub fn names_medium(name: &[u8]) -> bool
     ensures { result ≡ is_medium_name name.now }
 {
-    if name.len() < 5 || name.len() > 64 || name[0] == b'-' {
+    if name.len() < 5 || name.len() > LONGEST_NAME || name[0] == b'-' {
         return false;
     }
     are_name_bytes(name) && ends_in_vdi(name)
 }
 
-/// Whether a machine or a snapshot may have this name: 1 to 32 letters, digits, `.`, `_` and `-`, with no `-` at the
+/// Whether a machine or a snapshot may have this name: 1 to [`LONGEST_SHORT_NAME`] letters, digits, `.`, `_` and `-`, with no `-` at the
 /// front.
 #[tactic(auto, unfolding(crate::specs::Names::is_short_name))]
 pub fn names_machine(name: &[u8]) -> bool
     ensures { result ≡ is_short_name name.now }
 {
-    if name.is_empty() || name.len() > 32 || name[0] == b'-' {
+    if name.is_empty() || name.len() > LONGEST_SHORT_NAME || name[0] == b'-' {
         return false;
     }
     are_name_bytes(name)
@@ -91,8 +103,5 @@ fn names_inner_image(name: &[u8]) -> bool
 pub fn names_store_file(name: &[u8]) -> bool
     ensures { result ≡ is_store_name name.now }
 {
-    names_medium(name)
-        || names_inner_image(name)
-        || name == b"library.vbm".as_slice()
-        || name == b"intent.vbm".as_slice()
+    names_medium(name) || names_inner_image(name) || name == LIBRARY_NAME || name == LOG_NAME
 }

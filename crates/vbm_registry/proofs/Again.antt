@@ -13,6 +13,7 @@ use Rattle.vbm_registry.specs.Library.{mode_code, medium_onto, items_onto, list_
 use Rattle.vbm_registry.specs.Reading.{limited_at, seed_at, media_at, no_more_at, listing, fields_at, to_offset, library_in, Decodes}
 use Rattle.vbm_registry.proofs.Fields.{IsBytes, IsBytes-drop, bind_ok, guard_ok, guard_true, ok_is, wide64, limited_takes, limited_again}
 use Rattle.vbm_registry.proofs.Parts.{short_name, seed_again, media_again, seed_takes, media_takes, no_more_takes}
+use Rattle.vbm_registry.specs.declared.library.TheConstants.{LONGEST_LIBRARY}
 
 -- the bytes after the head
 abbrev fields : Library → List ℕ
@@ -52,7 +53,7 @@ media_length (m ∷ ms) rest each =
     let one : length (medium_onto m after) ≡ suc (length m.name + suc (length after)) = ap suc (length-append m.name (mode_code m.mode ∷ after)) in
     omega (arith, one, media_length ms rest each.1, short_name m.name each.0.name)
 
-pub spelled_length : (l : Library) → IsLibrary l → length (spelling l) ≤ 2 ^ 20
+pub spelled_length : (l : Library) → IsLibrary l → length (spelling l) ≤ LONGEST_LIBRARY
 spelled_length l ok =
     rw (spelled_is l) (
     let after = to_le_bytes w64 l.next ++ (to_le_bytes w64 l.inner ++ list_onto w16 medium_onto l.media no_more) in
@@ -63,7 +64,7 @@ spelled_length l ok =
 pub read_again : (l : Library) → IsLibrary l → IsQuiet l → library_in (spelling l) ≡ Ok l
 unfolding library_in
 read_again l ok quiet =
-    let short : ltb (2 ^ 20) (length (head ++ fields l)) ≡ false = le-ltb _ _ (rw (spelled_is l) at (spelled_length l ok)) in
+    let short : ltb LONGEST_LIBRARY (length (head ++ fields l)) ≡ false = le-ltb _ _ (rw (spelled_is l) at (spelled_length l ok)) in
     let read : fields_at (drop 8 (head ++ fields l)) ≡ Ok l = fields_again l ok quiet in
     rw (spelled_is l, short, read) refl
 
@@ -117,8 +118,8 @@ offset_ok len (Err left) l e = absurd cc
 pub accepted : (bytes : List ℕ) (l : Library) → library_in bytes ≡ Ok l → IsLibrary l × IsQuiet l × (IsBytes bytes → bytes ≡ spelling l)
 unfolding library_in
 accepted bytes l e =
-    let h = guard_ok (not (starts_with nat_eq bytes head)) 0 (cond (ltb (2 ^ 20) (length bytes)) (Err (2 ^ 20)) (to_offset (length bytes) (fields_at (drop 8 bytes)))) l e in
-    let g = guard_ok (ltb (2 ^ 20) (length bytes)) (2 ^ 20) (to_offset (length bytes) (fields_at (drop 8 bytes))) l h.1 in
+    let h = guard_ok (not (starts_with nat_eq bytes head)) 0 (cond (ltb LONGEST_LIBRARY (length bytes)) (Err LONGEST_LIBRARY) (to_offset (length bytes) (fields_at (drop 8 bytes)))) l e in
+    let g = guard_ok (ltb LONGEST_LIBRARY (length bytes)) LONGEST_LIBRARY (to_offset (length bytes) (fields_at (drop 8 bytes))) l h.1 in
     let t = fields_takes (drop 8 bytes) l (offset_ok (length bytes) (fields_at (drop 8 bytes)) l g.1) in
     let starts = starts_is bytes (not_false (starts_with nat_eq bytes head) h.0) in
     (t.0, t.1, λ fits. starts ∙ ap (λ (y : List ℕ). head ++ y) (t.2 (IsBytes-drop 8 bytes fits)) ∙ sym (spelled_is l))

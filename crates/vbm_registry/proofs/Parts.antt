@@ -10,7 +10,7 @@ use Rattle.vbm_modes.specs.declared.Mode.{Mode}
 use Rattle.vbm_modes.specs.declared.Mode.TheVariants.{Normal}
 use Rattle.vbm_ids.specs.Identifier.{IsSeed}
 use Rattle.vbm_named.specs.Names.{Name, is_before, Rises}
-use Rattle.vbm_world.specs.declared.refusals.TheConstants.{MEDIA_LIMIT}
+use Rattle.vbm_world.specs.declared.limits.TheConstants.{MEDIA_LIMIT}
 use Rattle.vbm_registry.specs.declared.media.Medium.{Medium}
 use Rattle.vbm_registry.specs.Library.{medium_entry_name, name_onto, medium_onto, mode_code, items_onto, list_onto, no_more, IsListed}
 use Rattle.vbm_registry.specs.Reading.{◌>>=◌, limited_at, are_bytes, seed_at, name_at, mode_at, medium_at, items_at, media_at, no_more_at}

@@ -19,7 +19,7 @@ use Rattle.vbm_intent.specs.Log.{Redo, closed, pending, IsBadLog, IsOpen, IsShut
 use Rattle.vbm_named.specs.Names.{Name, is_before, is_named, has_name, find_by, put_by, without, Rises}
 use Rattle.vbm_ids.specs.declared.TheConstants.{NUMBER_LIMIT}
 use Rattle.vbm_ids.specs.Identifier.{is_foreign, is_not_below}
-use Rattle.vbm_world.specs.declared.refusals.TheConstants.{MEDIA_LIMIT}
+use Rattle.vbm_world.specs.declared.limits.TheConstants.{MEDIA_LIMIT}
 use Rattle.vbm_world.specs.World.{World}
 use Rattle.vbm_named.proofs.Lists.{name_sym, All-map, All-every, All-both, none_of_any, has_found, All-put, rises_put, length-put, All-without, others-without, rises_without, length-without}
 use Rattle.vbm_registry.specs.declared.media.Medium.{Medium}
@@ -27,7 +27,7 @@ use Rattle.vbm_registry.specs.declared.library.Library.{Library}
 use Rattle.vbm_registry.specs.declared.fault.BadStore.{BadStore}
 use Rattle.vbm_registry.specs.Library.{library_name, medium_entry_name, with_entry, without_entry, IsListed, IsLibrary, IsQuiet}
 use Rattle.vbm_registry.specs.Reading.{library_in}
-use Rattle.vbm_registry.specs.Stands.{header_in, medium_in, is_making, shelved_file, shelf_of, world_with, id_in, image_fault, file_fault, own_fault, first_fault, same_id_fault, media_fault, read_library, library_file, library_of, unless_fault, none_changed, store_of, held_by, Stands, redone, bad_log, IsOwn, AreDistinct, IsStore}
+use Rattle.vbm_registry.specs.Stands.{header_in, medium_in, is_making, shelved_file, shelf_of, world_with, id_in, image_fault, file_fault, own_fault, first_fault, same_id_fault, media_fault, read_library, library_file, library_of, unless_fault, none_changed, store_of, held_by, Stands, redone, bad_log, IsOwn, HaveOwnIds, IsStore}
 use Rattle.vbm_registry.proofs.Again.{accepted}
 
 -- ---- the first fault
@@ -69,7 +69,7 @@ abbrev IsNew : Files → List (List ℕ) → Medium → Type 0
 IsNew files earlier m = list_any (bytes_eq (id_in files m)) earlier ≡ false
 
 facts : (l : Library) (files : Files) (earlier : List (List ℕ)) (ms : List Medium) → media_fault l files earlier ms ≡ None
-    → AllByRecursion (IsOwn l files) ms × AreDistinct files ms × AllByRecursion (IsNew files earlier) ms
+    → AllByRecursion (IsOwn l files) ms × HaveOwnIds files ms × AllByRecursion (IsNew files earlier) ms
 facts l files earlier [] none = (tt, tt, tt)
 facts l files earlier (m ∷ ms) none =
     let own = first_none (own_fault l files m) _ none in
@@ -82,7 +82,7 @@ facts l files earlier (m ∷ ms) none =
     )
 
 no_fault : (l : Library) (files : Files) (earlier : List (List ℕ)) (ms : List Medium)
-    → AllByRecursion (IsOwn l files) ms → AreDistinct files ms → AllByRecursion (IsNew files earlier) ms → media_fault l files earlier ms ≡ None
+    → AllByRecursion (IsOwn l files) ms → HaveOwnIds files ms → AllByRecursion (IsNew files earlier) ms → media_fault l files earlier ms ≡ None
 no_fault l files earlier [] own distinct new = refl
 no_fault l files earlier (m ∷ ms) own distinct new =
     rw (no_own_fault l files m own.0, new.0) (no_fault l files (id_in files m ∷ earlier) ms own.1 distinct.1 (All-map _ _
@@ -180,7 +180,7 @@ module _ (a b : Files) where
   fault_frame l earlier [] same = refl
   fault_frame l earlier (m ∷ ms) same = rw (same.0, id_frame m same.0, fault_frame l (id_in a m ∷ earlier) ms same.1) refl
 
-  distinct_frame : (ms : List Medium) → SameFiles a b ms → AreDistinct a ms → AreDistinct b ms
+  distinct_frame : (ms : List Medium) → SameFiles a b ms → HaveOwnIds a ms → HaveOwnIds b ms
   distinct_frame [] same distinct = tt
   distinct_frame (m ∷ ms) same distinct = (
     All-map (λ n. (bytes_eq (id_in a m) (id_in a n) ≡ false) × (b n.name ≡ a n.name)) (λ n. bytes_eq (id_in b m) (id_in b n) ≡ false)
@@ -207,7 +207,7 @@ module _ (a b : Files) where
     pub store_frame : k.media ≡ l.media → SameFiles a b l.media → IsStore l a → IsStore k b
     store_frame media same store = record {
       own = subst (AllByRecursion (IsOwn k b)) (sym media) (owns_frame l.media same store.own);
-      distinct = subst (AreDistinct b) (sym media) (distinct_frame l.media same store.distinct);
+      distinct = subst (HaveOwnIds b) (sym media) (distinct_frame l.media same store.distinct);
     }
 
   -- the shelf at a name whose file and place are the same
@@ -309,13 +309,13 @@ stands_shut files held shut is = redone files (closed (not_open (files log_name)
 
 -- ---- one medium more
 
-distinct_put : (files : Files) (m : Medium) (ms : List Medium) → AreDistinct files ms
-    → AllByRecursion (λ n. bytes_eq (id_in files m) (id_in files n) ≡ false) ms → AreDistinct files (put_by medium_entry_name m ms)
+distinct_put : (files : Files) (m : Medium) (ms : List Medium) → HaveOwnIds files ms
+    → AllByRecursion (λ n. bytes_eq (id_in files m) (id_in files n) ≡ false) ms → HaveOwnIds files (put_by medium_entry_name m ms)
 unfolding put_by
 distinct_put files m [] distinct new = (tt, tt)
 distinct_put files m (n ∷ ns) distinct new =
     let other : bytes_eq (id_in files n) (id_in files m) ≡ false = name_sym (id_in files n) (id_in files m) ∙ new.0 in
-    elim (is_before m.name n.name) as (λ b. AreDistinct files (cond b (m ∷ n ∷ ns) (n ∷ put_by medium_entry_name m ns))) [
+    elim (is_before m.name n.name) as (λ b. HaveOwnIds files (cond b (m ∷ n ∷ ns) (n ∷ put_by medium_entry_name m ns))) [
       | true ↦ (new, distinct)
       | false ↦ (
         All-put medium_entry_name (λ o. bytes_eq (id_in files n) (id_in files o) ≡ false) m ns other distinct.0,
@@ -366,11 +366,11 @@ library_put l m next is listed new room few =
 
 -- ---- one medium less
 
-distinct_without : (files : Files) (name : Name) (ms : List Medium) → AreDistinct files ms → AreDistinct files (without medium_entry_name name ms)
+distinct_without : (files : Files) (name : Name) (ms : List Medium) → HaveOwnIds files ms → HaveOwnIds files (without medium_entry_name name ms)
 distinct_without files name [] distinct = tt
 distinct_without files name (m ∷ ms) distinct =
     let left = without medium_entry_name name ms in
-    elim (bytes_eq m.name name) as (λ b. AreDistinct files (cond (not b) (m ∷ left) left)) [
+    elim (bytes_eq m.name name) as (λ b. HaveOwnIds files (cond (not b) (m ∷ left) left)) [
       | true ↦ distinct_without files name ms distinct.1
       | false ↦ (
         All-without medium_entry_name (λ n. bytes_eq (id_in files m) (id_in files n) ≡ false) name ms distinct.0,

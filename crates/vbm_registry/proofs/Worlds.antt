@@ -19,14 +19,14 @@ use Rattle.vbm_volume.proofs.Likes.{flat_length, capacity_good}
 use Rattle.vbm_ids.specs.declared.TheConstants.{NUMBER_LIMIT}
 use Rattle.vbm_ids.specs.declared.Kind.{Kind}
 use Rattle.vbm_ids.specs.declared.Kind.TheVariants.{Medium as Drawn, Modify, Inner, InnerModify}
-use Rattle.vbm_ids.specs.Identifier.{identifier_of, number_in, counted_in, is_foreign, has_id}
+use Rattle.vbm_ids.specs.Identifier.{identifier_of, number_in, count_of_id, is_foreign, has_id}
 use Rattle.vbm_ids.proofs.Identifiers.{number_in_of, identifier_of-same}
 use Rattle.vbm_world.specs.declared.world.WorldMedium.{WorldMedium}
 use Rattle.vbm_world.specs.declared.world.Shelved.{Shelved}
 use Rattle.vbm_named.specs.Names.{Name, find_by, has_name, put_by, without}
 use Rattle.vbm_world.specs.World.{World, medium_name, medium_id, medium_of, is_frozen, with_shelved}
 use Rattle.vbm_world.specs.Refusals.{is_bad_size, is_medium}
-use Rattle.vbm_world.specs.Step.{shelved}
+use Rattle.vbm_world.specs.Media.{shelved}
 use Rattle.vbm_world.specs.Sound.{IsSoundMedium, IsSized, IsSoundFile, IsSoundShelf, first_count, IsSound}
 use Rattle.vbm_world.proofs.Keeping.{not_frozen}
 use Rattle.vbm_named.proofs.Lists.{All-every, name_refl, name_sym, find_put_same, find_put_other, find_without_same, find_without_other, All-map, All-of_map, any_none, any_map, has_found, find_map, has_map, put_map, without_map, rises_map}
@@ -70,9 +70,9 @@ module _ (seed : List ℕ) (long : length seed ≡ 16) (n : ℕ) (small : n < NU
   unfolding number_in
   no_other kind other =
       let id = identifier_of seed Drawn n in
-      let differs : bytes_eq id (identifier_of seed kind (counted_in id)) ≡ false = false_from_ne_true _ (λ same.
-      let e = (bytes_eq-Decides id (identifier_of seed kind (counted_in id))).0 same in
-      other (identifier_of-same seed (omega arith) Drawn kind n (counted_in id) small (omega arith) e).0) in
+      let differs : bytes_eq id (identifier_of seed kind (count_of_id id)) ≡ false = false_from_ne_true _ (λ same.
+      let e = (bytes_eq-Decides id (identifier_of seed kind (count_of_id id))).0 same in
+      other (identifier_of-same seed (omega arith) Drawn kind n (count_of_id id) small (omega arith) e).0) in
       rw differs refl
 
   drawn_test : (next : ℕ) → is_foreign seed next (identifier_of seed Drawn n) ≡ nat_le next n

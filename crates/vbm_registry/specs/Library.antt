@@ -2,15 +2,15 @@
 use Rattle.std.specs.Prelude.{◌≡◌, ℕ, ◌≤◌, ◌^◌, List, [], ◌∷◌, ◌++◌, length, codes, None, IsTrue}
 use Rattle.std.specs.List.{AllByRecursion}
 use Rattle.std.specs.Int.{Width, w8, w16, w64, to_le_bytes}
+use Rattle.vbm_ports.specs.declared.names.TheConstants.{LIBRARY_NAME}
 use Rattle.vbm_ports.specs.Names.{is_medium_name}
 use Rattle.vbm_modes.specs.declared.Mode.{Mode}
 use Rattle.vbm_modes.specs.declared.Mode.TheVariants.{Normal, Immutable, Writethrough, MultiAttach, Readonly}
 use Rattle.vbm_ids.specs.declared.TheConstants.{NUMBER_LIMIT}
 use Rattle.vbm_ids.specs.Identifier.{IsSeed}
 use Rattle.vbm_named.specs.Names.{Name, Rises, put_by, without}
-use Rattle.vbm_world.specs.declared.refusals.TheConstants.{MEDIA_LIMIT}
+use Rattle.vbm_world.specs.declared.limits.TheConstants.{MEDIA_LIMIT}
 use Rattle.vbm_registry.specs.declared.media.Medium.{Medium}
-use Rattle.vbm_registry.specs.declared.library.TheConstants.{LIBRARY_NAME}
 use Rattle.vbm_registry.specs.declared.library.Library.{Library}
 
 -- the library's file

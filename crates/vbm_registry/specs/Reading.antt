@@ -8,7 +8,7 @@ use Rattle.vbm_modes.specs.declared.Mode.{Mode}
 use Rattle.vbm_modes.specs.declared.Mode.TheVariants.{Normal}
 use Rattle.vbm_ids.specs.declared.TheConstants.{NUMBER_LIMIT}
 use Rattle.vbm_named.specs.Names.{Name, is_before}
-use Rattle.vbm_world.specs.declared.refusals.TheConstants.{MEDIA_LIMIT}
+use Rattle.vbm_world.specs.declared.limits.TheConstants.{MEDIA_LIMIT}
 use Rattle.vbm_registry.specs.declared.media.Medium.{Medium}
 use Rattle.vbm_registry.specs.declared.library.Library.{Library}
 use Rattle.vbm_registry.specs.declared.reading.Stop.{Stop}
@@ -16,6 +16,7 @@ use Rattle.vbm_registry.specs.declared.reading.Stop.TheVariants as stops
 use Rattle.vbm_registry.specs.declared.reading.DecodeFault.{DecodeFault}
 use Rattle.vbm_registry.specs.declared.reading.DecodeFault.TheVariants as faults
 use Rattle.vbm_registry.specs.Library.{medium_entry_name, head}
+use Rattle.vbm_registry.specs.declared.library.TheConstants.{LONGEST_LIBRARY}
 
 -- what a reader gives
 abbrev pub Parsed : Type 0 → Type 0
@@ -120,7 +121,7 @@ to_offset len (Err left) = Err (len - left)
 unfoldable pub library_in : List ℕ → Result Library ℕ
 library_in bytes =
     if not (starts_with nat_eq bytes head) then Err 0
-    else if nat_lt (2 ^ 20) (length bytes) then Err (2 ^ 20)
+    else if nat_lt LONGEST_LIBRARY (length bytes) then Err LONGEST_LIBRARY
     else to_offset (length bytes) (fields_at (drop 8 bytes))
 
 -- A reader of the code gives what reading gives, through a view, unless memory ran out.

@@ -184,11 +184,11 @@ pub record IsOwn (l : Library) (files : Files) (m : Medium) : Type 0 where
   pub whole : is_differencing (header_in files m.name).image_type ≡ false
   pub known : is_foreign l.seed l.next (id_in files m) ≡ false
 
-abbrev pub AreDistinct : Files → List Medium → Type 0
-AreDistinct files [] = Unit {0}
-AreDistinct files (m ∷ ms) = AllByRecursion (λ (n : Medium). bytes_eq (id_in files m) (id_in files n) ≡ false) ms × AreDistinct files ms
+abbrev pub HaveOwnIds : Files → List Medium → Type 0
+HaveOwnIds files [] = Unit {0}
+HaveOwnIds files (m ∷ ms) = AllByRecursion (λ (n : Medium). bytes_eq (id_in files m) (id_in files n) ≡ false) ms × HaveOwnIds files ms
 
 -- the media's files are accepted, and have different identifiers
 pub record IsStore (l : Library) (files : Files) : Type 0 where
   pub own : AllByRecursion (IsOwn l files) l.media
-  pub distinct : AreDistinct files l.media
+  pub distinct : HaveOwnIds files l.media

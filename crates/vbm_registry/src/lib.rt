@@ -8,7 +8,7 @@ mod reading;
 mod writing;
 
 pub use fault::BadStore;
-pub use library::{ImageRef, Inner, Inners, LIBRARY_NAME, Library, Merging, Mergings};
+pub use library::{ImageRef, Inner, Inners, LONGEST_LIBRARY, Library, Merging, Mergings};
 pub use media::{Media, Medium};
 pub use reading::{DecodeFault, decode};
 pub use writing::encode;

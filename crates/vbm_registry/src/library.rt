@@ -10,8 +10,8 @@ use uuid::Uuid;
 use vbm_machines::Machines;
 use vbm_ports::{Copied, NoMemory, Sequence, Text};
 
-/// The name of the library's file.
-pub const LIBRARY_NAME: &[u8] = b"library.vbm";
+/// No library's file is longer, in bytes.
+pub const LONGEST_LIBRARY: usize = 1 << 20;
 
 /// An image of the store.
 #[derive(Clone, Copy, Debug, PartialEq, Eq)]

@@ -7,7 +7,7 @@ ghost use Rattle.vbm_named.specs.Names.{is_before as before};
 ghost use Rattle.vbm_registry.specs.Library.{IsLibrary, IsQuiet, spelling, medium_entry_name};
 ghost use Rattle.vbm_registry.specs.Reading.{Agrees, number_at, limited_at, seed_at, name_at, mode_at, medium_at, items_at, media_at, no_more_at, fields_at, library_in, Decodes};
 
-use crate::library::Library;
+use crate::library::{LONGEST_LIBRARY, Library};
 use crate::media::{Media, Medium};
 use std::alloc::Global;
 use uuid::Uuid;
@@ -19,9 +19,6 @@ use vbm_ports::{NoMemory, Sequence, Text, names_medium};
 use vbm_world::MEDIA_LIMIT;
 
 const HEAD: &[u8; 8] = b"VBMLIB01";
-
-/// The most bytes that a library's file has.
-const LONGEST: usize = 1 << 20;
 
 /// Why reading stopped.
 #[derive(Clone, Copy, Debug, PartialEq, Eq)]
@@ -236,8 +233,8 @@ fn read_file(alloc: Global, bytes: &[u8]) -> Result<Library, DecodeFault>
     if !bytes.starts_with(HEAD) {
         return Err(DecodeFault::Bad(0));
     }
-    if bytes.len() > LONGEST {
-        return Err(DecodeFault::Bad(LONGEST as u32));
+    if bytes.len() > LONGEST_LIBRARY {
+        return Err(DecodeFault::Bad(LONGEST_LIBRARY as u32));
     }
     match read_fields(alloc, &bytes[HEAD.len()..]) {
         Ok(library) => Ok(library),
@@ -248,8 +245,8 @@ fn read_file(alloc: Global, bytes: &[u8]) -> Result<Library, DecodeFault>
 
 /// The library that a file holds.
 ///
-/// A file that does not begin as a library's does is bad at 0, and one of more than 2^20 bytes at 2^20. Otherwise the fault
-/// is at the first field that breaks a rule or that the file is too short for, or at the first byte after the last field.
+/// A file that does not begin as a library's does is bad at 0, and one of more than [`LONGEST_LIBRARY`] bytes at that place.
+/// Otherwise the fault is at the first field that breaks a rule or that the file is too short for, or at the first byte after the last field.
 pub fn decode(alloc: Global, bytes: &[u8]) -> Result<Library, DecodeFault>
     ensures exact { Decodes result (library_in bytes.now) }
     ensures spelled { IfOk result (λ l. IsLibrary l × IsQuiet l × (bytes.now ≡ spelling l)) }

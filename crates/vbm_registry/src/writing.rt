@@ -4,6 +4,7 @@ ghost use Rattle.std.specs.Prelude.{◌≡◌, ◌++◌, ◌≤◌, ◌^◌, len
 ghost use Rattle.std.specs.List.{AllByRecursion};
 ghost use Rattle.vbm_registry.specs.Library.{IsLibrary, IsQuiet, IsListed, spelling, items_onto, medium_onto, mode_code as code_of};
 ghost use Rattle.vbm_registry.specs.Reading.{library_in};
+ghost use Rattle.vbm_registry.specs.declared.library.TheConstants.{LONGEST_LIBRARY};
 
 use crate::library::Library;
 use crate::media::{Media, Medium};
@@ -66,13 +67,13 @@ fn spell(alloc: Global, library: &Library) -> Result<Vec<u8>, AllocError>
     Ok(out)
 }
 
-/// The bytes of a library's file, at most 2^20, from which the library is read again.
+/// The bytes of a library's file, at most [`LONGEST_LIBRARY`], from which the library is read again.
 pub fn encode(alloc: Global, library: &Library) -> Result<Bytes, NoMemory>
     requires rules { IsLibrary library.now }
     requires quiet { IsQuiet library.now }
     ensures bytes { IfOk result (λ b. b ≡ spelling library.now) }
     ensures again { IfOk result (λ b. library_in b ≡ Ok library.now) }
-    ensures short { IfOk result (λ b. length b ≤ 2 ^ 20) }
+    ensures short { IfOk result (λ b. length b ≤ LONGEST_LIBRARY) }
 {
     match spell(alloc, library) {
         Ok(bytes) => Ok(Sequence::from_vec(bytes)),

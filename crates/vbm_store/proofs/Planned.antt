@@ -12,8 +12,8 @@ use Rattle.vbm_volume.specs.Like.{map_end}
 use Rattle.vbm_volume.specs.Made.{IsNewHeader, new_map, new_allocated, made_front, made_image}
 use Rattle.vbm_intent.specs.declared.change.Change.{Change}
 use Rattle.vbm_intent.specs.declared.change.Change.TheVariants.{Fill, Cut}
-use Rattle.vbm_intent.specs.Changes.{of_file, effect, after, changed, FitsFile, Fits}
-use Rattle.vbm_intent.proofs.Applying.{of_file-append, after-append}
+use Rattle.vbm_intent.specs.Changes.{of_file, effect, file_after, changed, FitsFile, Fits}
+use Rattle.vbm_intent.proofs.Applying.{of_file-append, file_after-append}
 use Rattle.vbm_named.specs.Names.{Name}
 use Rattle.vbm_named.proofs.Lists.{name_refl}
 use Rattle.vbm_registry.specs.declared.library.Library.{Library}
@@ -36,7 +36,7 @@ put_end at bytes old long =
 
 -- ---- the library's file
 
-library_after : (l : Library) (file : Option (List ℕ)) → after (library_changes l) file ≡ Some (spelling l)
+library_after : (l : Library) (file : Option (List ℕ)) → file_after (library_changes l) file ≡ Some (spelling l)
 library_after l file =
     ap (λ b. Some (take (length (spelling l)) b)) (put_start (spelling l) (bytes_of file))
     ∙ ap Some (take_at (spelling l) (drop (length (spelling l)) (bytes_of file)) (length (spelling l)) refl)
@@ -45,7 +45,7 @@ library_after l file =
 pub library_made : (cs : List Change) (l : Library) (files : Files) → of_file library_name cs ≡ []
     → changed (cs ++ library_changes l) files library_name ≡ Some (spelling l)
 library_made cs l files none =
-    ap (λ (ds : List Change). after ds (files library_name)) (of_file-append library_name cs (library_changes l) ∙ ap (λ (ds : List Change). ds ++ library_changes l) none)
+    ap (λ (ds : List Change). file_after ds (files library_name)) (of_file-append library_name cs (library_changes l) ∙ ap (λ (ds : List Change). ds ++ library_changes l) none)
     ∙ library_after l (files library_name)
 
 none_of_library : (l : Library) (name : Name) → bytes_eq library_name name ≡ false → of_file name (library_changes l) ≡ []
@@ -59,7 +59,7 @@ of_others cs l name apart =
 -- every other file is as the changes before make it
 pub library_frame : (cs : List Change) (l : Library) (files : Files) (name : Name) → bytes_eq library_name name ≡ false
     → changed (cs ++ library_changes l) files name ≡ changed cs files name
-library_frame cs l files name apart = ap (λ (ds : List Change). after ds (files name)) (of_others cs l name apart)
+library_frame cs l files name apart = ap (λ (ds : List Change). file_after ds (files name)) (of_others cs l name apart)
 
 -- the changes of a library fit any file, behind changes of other files that fit
 pub library_fits : (cs : List Change) (l : Library) (files : Files) → of_file library_name cs ≡ [] → Fits cs files → Fits (cs ++ library_changes l) files
@@ -75,7 +75,7 @@ library_fits cs l files none fits name = elim (cases_Bool (bytes_eq library_name
 
 -- ---- a new image
 
-fits_append : (cs ds : List Change) (file : Option (List ℕ)) → FitsFile cs file → FitsFile ds (after cs file) → FitsFile (cs ++ ds) file
+fits_append : (cs ds : List Change) (file : Option (List ℕ)) → FitsFile cs file → FitsFile ds (file_after cs file) → FitsFile (cs ++ ds) file
 fits_append [] ds file fits more = more
 fits_append (c ∷ cs) ds file fits more = (fits.0, fits_append cs ds (effect c file) fits.1 more)
 
@@ -118,7 +118,7 @@ module _ (h : Header) (new : IsNewHeader h) where
       ap (put 472 (zeros (h.off_blocks - 472))) (put_end 0 (header_bytes h) [] refl)
       ∙ put_end 472 (zeros (h.off_blocks - 472)) (header_bytes h) (length-header_bytes h)
 
-  front_after : (name : Name) → after (front_changes name h) None ≡ Some mapped
+  front_after : (name : Name) → file_after (front_changes name h) None ≡ Some mapped
   front_after name =
       ap Some (ap (put h.off_blocks (replicate (4 * h.blocks) 255)) filled
       ∙ put_end h.off_blocks (replicate (4 * h.blocks) 255) front front_long)
@@ -129,23 +129,23 @@ module _ (h : Header) (new : IsNewHeader h) where
   whole_long : length whole ≡ h.off_data
   whole_long = length-append mapped (zeros (h.off_data - map_end h)) ∙ omega (arith, mapped_long, length-replicate {A = ℕ} (h.off_data - map_end h) 0, p.behind)
 
-  gap_after : (name : Name) → after (gap_changes name h) (Some mapped) ≡ Some whole
-  gap_after name = gap_cases name h (λ gap. after gap (Some mapped) ≡ Some whole)
+  gap_after : (name : Name) → file_after (gap_changes name h) (Some mapped) ≡ Some whole
+  gap_after name = gap_cases name h (λ gap. file_after gap (Some mapped) ≡ Some whole)
       (λ some. ap Some (put_end (map_end h) (zeros (h.off_data - map_end h)) mapped mapped_long))
       (λ none.
       let no : h.off_data - map_end h ≡ 0 = omega (arith, ltb-false (map_end h) h.off_data none) in
       rw no (ap Some (sym (append-nil mapped))))
 
   -- an absent file becomes the new image
-  image_after : (name : Name) → h.image_type ≡ Dynamic → after (image_changes name h) None ≡ Some (made_image h)
+  image_after : (name : Name) → h.image_type ≡ Dynamic → file_after (image_changes name h) None ≡ Some (made_image h)
   image_after name dynamic =
       let none : h.allocated ≡ 0 = new.allocated ∙ ap (λ t. new_allocated t h.blocks) dynamic in
       let map : new_map h.image_type h.blocks ≡ replicate (4 * h.blocks) 255 = ap (λ t. new_map t h.blocks) dynamic in
       let room : h.off_data - map_end h ≡ h.off_data - map_end h + h.allocated * 2 ^ 20 = rw none (omega arith) in
-      after-append (front_changes name h ++ gap_changes name h) (Cut name h.off_data ∷ []) None
-      ∙ ap (after (Cut name h.off_data ∷ [])) (after-append (front_changes name h) (gap_changes name h) None
-      ∙ ap (after (gap_changes name h)) (front_after name))
-      ∙ ap (after (Cut name h.off_data ∷ [])) (gap_after name)
+      file_after-append (front_changes name h ++ gap_changes name h) (Cut name h.off_data ∷ []) None
+      ∙ ap (file_after (Cut name h.off_data ∷ [])) (file_after-append (front_changes name h) (gap_changes name h) None
+      ∙ ap (file_after (gap_changes name h)) (front_after name))
+      ∙ ap (file_after (Cut name h.off_data ∷ [])) (gap_after name)
       ∙ ap Some (take_all h.off_data whole (omega (arith, whole_long))
       ∙ append_assoc front (replicate (4 * h.blocks) 255) (zeros (h.off_data - map_end h))
       ∙ ap (λ n. front ++ (replicate (4 * h.blocks) 255 ++ zeros n)) room
@@ -163,7 +163,7 @@ module _ (h : Header) (new : IsNewHeader h) where
 
   pub image_made : (name : Name) (files : Files) → h.image_type ≡ Dynamic → files name ≡ None → changed (image_changes name h) files name ≡ Some (made_image h)
   image_made name files dynamic absent =
-      ap (λ (ds : List Change). after ds (files name)) (of_image name h) ∙ ap (after (image_changes name h)) absent ∙ image_after name dynamic
+      ap (λ (ds : List Change). file_after ds (files name)) (of_image name h) ∙ ap (file_after (image_changes name h)) absent ∙ image_after name dynamic
 
   pub image_fits : (name : Name) (files : Files) → files name ≡ None → Fits (image_changes name h) files
   image_fits name files absent other = elim (cases_Bool (bytes_eq name other)) [
@@ -176,4 +176,4 @@ module _ (h : Header) (new : IsNewHeader h) where
 
 -- every other file is as it was
 pub image_frame : (name other : Name) (h : Header) (files : Files) → bytes_eq name other ≡ false → changed (image_changes name h) files other ≡ files other
-image_frame name other h files apart = ap (λ (ds : List Change). after ds (files other)) (image_alone name other h apart)
+image_frame name other h files apart = ap (λ (ds : List Change). file_after ds (files other)) (image_alone name other h apart)

@@ -6,7 +6,7 @@ use Rattle.vbm_named.proofs.Lists.{name_refl}
 use Rattle.vbm_ports.specs.Names.{is_medium_name, is_inner_name, is_store_name, IsStoreName}
 use Rattle.vbm_intent.specs.declared.change.Change.{Change}
 use Rattle.vbm_intent.specs.declared.change.Change.TheVariants.{Write, Fill, Cut}
-use Rattle.vbm_intent.specs.Changes.{log_name, name_of, of_file, IsWithinLimits, Touches, IsAllowed, ApartFrom, IsApart}
+use Rattle.vbm_intent.specs.Changes.{log_name, name_of, of_file, IsWithinLimits, TouchesByte, IsAllowed, ApartFrom, IsApart}
 use Rattle.vbm_intent.specs.Plan.{text_size, body_size}
 use Rattle.vbm_intent.proofs.Applying.{of_file-append, of_file_yes}
 use Rattle.vbm_header.specs.declared.Header.{Header}
@@ -31,41 +31,41 @@ file_push name cs c named =
     of_file-append name cs (c ∷ [])
     ∙ ap (λ (l : List Change). of_file name cs ++ l) (of_file_yes name c [] (ap (λ n. bytes_eq n name) named ∙ name_refl name))
 
-apart_from : (c d : Change) (ds : List Change) → ApartFrom c ds → ((i : ℕ) → Touches c i → Touches d i → ⊥) → ApartFrom c (ds ++ d ∷ [])
+apart_from : (c d : Change) (ds : List Change) → ApartFrom c ds → ((i : ℕ) → TouchesByte c i → TouchesByte d i → ⊥) → ApartFrom c (ds ++ d ∷ [])
 apart_from c d [] apart new = (new, tt)
 apart_from c d (e ∷ ds) apart new = (apart.0, apart_from c d ds apart.1 new)
 
-apart_push : (place : ℕ) (cs : List Change) (c : Change) → IsApart cs → AllByRecursion (λ d. (i : ℕ) → Touches d i → i < place) cs
-    → ((i : ℕ) → Touches c i → place ≤ i) → IsApart (cs ++ c ∷ [])
+apart_push : (place : ℕ) (cs : List Change) (c : Change) → IsApart cs → AllByRecursion (λ d. (i : ℕ) → TouchesByte d i → i < place) cs
+    → ((i : ℕ) → TouchesByte c i → place ≤ i) → IsApart (cs ++ c ∷ [])
 apart_push place [] c apart below from = (tt, tt)
 apart_push place (d ∷ cs) c apart below from =
     (apart_from d c cs apart.0 (λ i t u. omega (arith, below.0 i t, from i u)), apart_push place cs c apart.1 below.1 from)
 
-below_push : (place end : ℕ) (cs : List Change) (c : Change) → place ≤ end → AllByRecursion (λ d. (i : ℕ) → Touches d i → i < place) cs
-    → ((i : ℕ) → Touches c i → i < end) → AllByRecursion (λ d. (i : ℕ) → Touches d i → i < end) (cs ++ c ∷ [])
+below_push : (place end : ℕ) (cs : List Change) (c : Change) → place ≤ end → AllByRecursion (λ d. (i : ℕ) → TouchesByte d i → i < place) cs
+    → ((i : ℕ) → TouchesByte c i → i < end) → AllByRecursion (λ d. (i : ℕ) → TouchesByte d i → i < end) (cs ++ c ∷ [])
 below_push place end [] c le below to = (to, tt)
 below_push place end (d ∷ cs) c le below to = ((λ i t. omega (arith, le, below.0 i t)), below_push place end cs c le below.1 to)
 
-pub write_from : (name : List ℕ) (at : ℕ) (bytes : List ℕ) (i : ℕ) → Touches (Write name at bytes) i → (at ≤ i) × (i < at + length bytes)
+pub write_from : (name : List ℕ) (at : ℕ) (bytes : List ℕ) (i : ℕ) → TouchesByte (Write name at bytes) i → (at ≤ i) × (i < at + length bytes)
 write_from name at bytes i (inl writes) = (writes.low, writes.high)
 write_from name at bytes i (inr takes) = absurd takes
 
-pub fill_from : (name : List ℕ) (at len byte i : ℕ) → Touches (Fill name at len byte) i → (at ≤ i) × (i < at + len)
+pub fill_from : (name : List ℕ) (at len byte i : ℕ) → TouchesByte (Fill name at len byte) i → (at ≤ i) × (i < at + len)
 fill_from name at len byte i (inl writes) = (writes.low, writes.high)
 fill_from name at len byte i (inr takes) = absurd takes
 
-pub cut_from : (name : List ℕ) (len i : ℕ) → Touches (Cut name len) i → len ≤ i
+pub cut_from : (name : List ℕ) (len i : ℕ) → TouchesByte (Cut name len) i → len ≤ i
 cut_from name len i (inl writes) = absurd (omega (arith, writes.low, writes.high))
 cut_from name len i (inr takes) = takes
 
 -- a change of a file, behind the others
 module _ (name : List ℕ) (cs : List Change) (c : Change) (named : name_of c ≡ name) where
-  pub apart_behind : (place : ℕ) → EndsBy place (of_file name cs) → ((i : ℕ) → Touches c i → place ≤ i)
+  pub apart_behind : (place : ℕ) → EndsBy place (of_file name cs) → ((i : ℕ) → TouchesByte c i → place ≤ i)
       → IsApart (of_file (name_of c) (cs ++ c ∷ []))
   apart_behind place ends from = subst (λ n. IsApart (of_file n (cs ++ c ∷ []))) (sym named)
       (subst IsApart (sym (file_push name cs c named)) (apart_push place (of_file name cs) c ends.apart ends.below from))
 
-  pub ends_behind : (place end : ℕ) → EndsBy place (of_file name cs) → place ≤ end → ((i : ℕ) → Touches c i → (place ≤ i) × (i < end))
+  pub ends_behind : (place end : ℕ) → EndsBy place (of_file name cs) → place ≤ end → ((i : ℕ) → TouchesByte c i → (place ≤ i) × (i < end))
       → EndsBy end (of_file name (cs ++ c ∷ []))
   ends_behind place end ends le within = subst (EndsBy end) (sym (file_push name cs c named)) (record {
     apart = apart_push place (of_file name cs) c ends.apart ends.below (λ i t. (within i t).0);

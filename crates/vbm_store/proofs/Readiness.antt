@@ -26,7 +26,7 @@ use Rattle.vbm_world.proofs.Worlds.{loosely_refl, loosely_trans}
 use Rattle.vbm_registry.specs.declared.media.Medium.{Medium}
 use Rattle.vbm_registry.specs.declared.library.Library.{Library}
 use Rattle.vbm_registry.specs.Library.{library_name, medium_entry_name, IsListed, IsLibrary, IsQuiet}
-use Rattle.vbm_registry.specs.Stands.{header_in, medium_in, shelved_file, shelf_of, is_making, world_with, id_in, library_file, library_of, none_changed, Stands, redone, IsOwn, AreDistinct, IsStore}
+use Rattle.vbm_registry.specs.Stands.{header_in, medium_in, shelved_file, shelf_of, is_making, world_with, id_in, library_file, library_of, none_changed, Stands, redone, IsOwn, HaveOwnIds, IsStore}
 use Rattle.vbm_registry.proofs.Stores.{SameMedia, SameFiles, header_frame, store_frame, world_frame, held_if_store, medium_not_log, library_not_log, stands_shut}
 use Rattle.vbm_store.specs.declared.store.Store.{Store}
 use Rattle.vbm_store.specs.declared.store.Image.{Image}
@@ -89,7 +89,7 @@ listed_kept h loose (Some e) None f is kept = absurd kept
 listed_kept h loose (Some e) (Some g) f is kept =
     let same : e ≡ f = cc is in (g, refl, subst (λ x. IsLikeFile h loose x g) same kept)
 
-distinct_same : (a b : Files) (ms : List Medium) → SameHeaders a b ms → AreDistinct a ms → AreDistinct b ms
+distinct_same : (a b : Files) (ms : List Medium) → SameHeaders a b ms → HaveOwnIds a ms → HaveOwnIds b ms
 distinct_same a b [] same distinct = tt
 distinct_same a b (m ∷ ms) same distinct =
     (All-join _ _ _ (λ n other e. rw (same.0, e, id_in) other) ms distinct.0 same.1, distinct_same a b ms same.1 distinct.1)

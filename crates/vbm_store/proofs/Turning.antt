@@ -21,7 +21,6 @@ use Rattle.vbm_store.specs.declared.store.Store.{Store}
 use Rattle.vbm_intent.specs.declared.log.Log.{Log}
 use Rattle.vbm_registry.specs.declared.library.Library.{Library}
 use Rattle.vbm_store.specs.declared.images.Edit.{Edit}
-use Rattle.vbm_store.specs.declared.store.Decided.TheVariants as decided
 use Rattle.vbm_store.specs.declared.store.Committed.TheVariants.{Done}
 use Rattle.vbm_store.specs.Edits.{edited}
 use Rattle.vbm_store.specs.Commits.{HandsBack}
@@ -29,7 +28,7 @@ use Rattle.vbm_store.specs.Keeps.{Keeps, AllKeep, kind_of}
 use Rattle.vbm_store.specs.Kept.{AreKept}
 use Rattle.vbm_store.specs.Serves.{rests, serves, IsSoundStore, Holds, FitsDisk, touched, IsReady, StandsLoosely, both}
 use Rattle.vbm_store.specs.Turns.{Turns, IsInStep, Turned}
-use Rattle.vbm_store.specs.Steps.{HasNoStrays, Advances, Stays, Manages, Decides}
+use Rattle.vbm_store.specs.Steps.{HasNoStrays, Advances, Stays, Manages, Answers}
 use Rattle.vbm_store.proofs.Keeping.{kept_itself, kept_besides}
 use Rattle.vbm_store.proofs.Readiness.{same_files, same_media, holds_besides, unstaged_here, keeps_self, settled_ready, kept_redone, ready_stands, ready_redone}
 
@@ -74,12 +73,12 @@ module _ {tells : Type 0} (told : tells) (e : Store) {old new : DiskState} (read
     pub read_stays : FitsDisk e old → Stays old new e e
     read_stays fits = record { same = ap (serves e) (reads.files told); fits = fits_read fits; ready = ready_read; kept = kept_read }
 
-    pub read_advances : FitsDisk e old → (c : Command) (a : Answer) → Decides old.files e c (decided.Stay a) → Advances old new e e c a
-    read_advances fits c a decides = record {
+    pub read_advances : FitsDisk e old → (c : Command) (a : Answer) → Answers old.files e c a → Advances old new e e c a
+    read_advances fits c a answers = record {
       number = 0;
-      by = ap (λ f. (a, serves e f)) (reads.files told) ∙ decides.0;
+      by = ap (λ f. (a, serves e f)) (reads.files told) ∙ answers.0;
       fits = fits_read fits;
-      ready = λ u was. subst (IsReady e new) (sym (decides.1 u)) (ready_read u was);
+      ready = λ u was. subst (IsReady e new) (sym (answers.1 u)) (ready_read u was);
       kept = kept_read;
       tidy = record {
         quiet = sound.quiet;

@@ -6,10 +6,11 @@ use Rattle.vbm_header.specs.Written.{header_bytes}
 use Rattle.vbm_volume.specs.Like.{map_end}
 use Rattle.vbm_intent.specs.declared.change.Change.{Change}
 use Rattle.vbm_intent.specs.declared.change.Change.TheVariants.{Write, Fill, Cut}
-use Rattle.vbm_intent.specs.Changes.{Touches, IsApart}
+use Rattle.vbm_intent.specs.Changes.{TouchesByte, IsApart}
 use Rattle.vbm_named.specs.Names.{Name}
 use Rattle.vbm_registry.specs.declared.library.Library.{Library}
 use Rattle.vbm_registry.specs.Library.{library_name, spelling}
+use Rattle.vbm_header.specs.declared.TheConstants.{WRITTEN_LEN}
 
 -- the library's file holds these bytes, and no more
 abbrev pub library_changes : Library → List Change
@@ -19,9 +20,9 @@ library_changes l = Write library_name 0 (spelling l) ∷ Cut library_name (leng
 abbrev pub gap_changes : Name → Header → List Change
 gap_changes name h = if nat_lt (map_end h) h.off_data then Fill name (map_end h) (h.off_data - map_end h) 0 ∷ [] else []
 
--- the header of a new image, of 472 bytes, zeros up to the block map, and the map of free blocks
+-- the header of a new image, of WRITTEN_LEN bytes, zeros up to the block map, and the map of free blocks
 abbrev pub front_changes : Name → Header → List Change
-front_changes name h = Write name 0 (header_bytes h) ∷ Fill name 472 (h.off_blocks - 472) 0 ∷ Fill name h.off_blocks (4 * h.blocks) 255 ∷ []
+front_changes name h = Write name 0 (header_bytes h) ∷ Fill name WRITTEN_LEN (h.off_blocks - WRITTEN_LEN) 0 ∷ Fill name h.off_blocks (4 * h.blocks) 255 ∷ []
 
 -- A new image whose blocks are all free: its front, zeros up to the data, and no more.
 abbrev pub image_changes : Name → Header → List Change
@@ -30,4 +31,4 @@ image_changes name h = front_changes name h ++ gap_changes name h ++ Cut name h.
 -- changes of one file that touch different bytes, all below a place
 pub record EndsBy (place : ℕ) (cs : List Change) : Type 0 where
   pub apart : IsApart cs
-  pub below : AllByRecursion (λ c. (i : ℕ) → Touches c i → i < place) cs
+  pub below : AllByRecursion (λ c. (i : ℕ) → TouchesByte c i → i < place) cs

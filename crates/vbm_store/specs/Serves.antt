@@ -25,6 +25,9 @@ view images files = files
 abbrev pub serves : Store → Files → World
 serves e files = world_with none_changed e.library (view e.images files)
 
+abbrev pub image_id : Image → List ℕ
+image_id image = image.header.id
+
 abbrev pub image_name : Image → Name
 image_name image = image.name
 

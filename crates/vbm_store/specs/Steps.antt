@@ -1,5 +1,5 @@
 -- What a step does, a crash in it included, and what a command owes for it.
-use Rattle.std.specs.Prelude.{◌≡◌, ℕ, Bool, true, false, List, map, None, IsTrue, IsFalse}
+use Rattle.std.specs.Prelude.{◌≡◌, ℕ, List, map, None, Result, Ok, Err, IsTrue, IsFalse}
 use Rattle.vbm_ports.specs.Files.{Files}
 use Rattle.vbm_ports.specs.Disk.{DiskState}
 use Rattle.vbm_ports.specs.Names.{is_inner_name}
@@ -8,6 +8,8 @@ use Rattle.vbm_intent.specs.declared.log.Log.{Log}
 use Rattle.vbm_intent.specs.Changes.{changed}
 use Rattle.vbm_world.specs.declared.command.Command.{Command}
 use Rattle.vbm_world.specs.declared.command.Answer.{Answer}
+use Rattle.vbm_world.specs.declared.command.Answer.TheVariants as answers
+use Rattle.vbm_world.specs.declared.command.Refusal.{Refusal}
 use Rattle.vbm_named.specs.Names.{Name}
 use Rattle.vbm_world.specs.World.{World}
 use Rattle.vbm_world.specs.Step.{step_of}
@@ -15,8 +17,11 @@ use Rattle.vbm_world.specs.Loose.{Unsettled, unsettled_after}
 use Rattle.vbm_registry.specs.declared.library.Library.{Library}
 use Rattle.vbm_registry.specs.Library.{medium_entry_name, IsLibrary, IsQuiet}
 use Rattle.vbm_store.specs.declared.store.Store.{Store}
-use Rattle.vbm_store.specs.declared.store.Decided.{Decided}
-use Rattle.vbm_store.specs.declared.store.Decided.TheVariants as decided
+use Rattle.vbm_store.specs.declared.decision.Turn.{Turn}
+use Rattle.vbm_store.specs.declared.decision.Decision.{Decision}
+use Rattle.vbm_store.specs.declared.decision.Decision.TheVariants as decisions
+use Rattle.vbm_store.specs.declared.undone.Undone.{Undone}
+use Rattle.vbm_store.specs.declared.undone.Undone.TheVariants as undone
 use Rattle.vbm_store.specs.Listed.{is_inner_of}
 use Rattle.vbm_store.specs.Kept.{AreKept}
 use Rattle.vbm_store.specs.Serves.{serves, image_name, FitsDisk, IsReady}
@@ -60,26 +65,33 @@ pub record Manages (files : Files) (e : Store) (c : Command) (plan : List Change
   pub kept : AreKept e.library files next.library (changed plan files)
   pub strays : HasNoStrays next.library files (changed plan files)
 
--- What was decided: an answer that leaves the world as it is, or a plan.
-abbrev pub Decides : Files → Store → Command → Decided → Type 0
-Decides files e c (decided.Stay a) =
-    ((a, serves e files) ≡ step_of (serves e files) c 0) × ((u : Unsettled) → unsettled_after u (serves e files) c ≡ u)
-Decides files e c (decided.Turn library edit plan a) =
-    (log : Log) → Manages files e c plan.changes (record { library = library; images = edited edit e.images; log = log }) a
-Decides files e c decided.NoMemory = Unit {0}
-Decides files e c decided.Failed = Unit {0}
+-- the machine's answer, which leaves the world and what is unsettled as they are
+abbrev pub Answers : Files → Store → Command → Answer → Type 0
+Answers files e c a = ((a, serves e files) ≡ step_of (serves e files) c 0) × ((u : Unsettled) → unsettled_after u (serves e files) c ≡ u)
 
--- what holds of a decision over any disk
-abbrev pub DecidesSound : Store → Decided → Type 0
-DecidesSound e (decided.Stay a) = Unit {0}
-DecidesSound e (decided.Turn library edit plan a) =
-    IsLibrary library × IsQuiet library × (map image_name (edited edit e.images) ≡ map medium_entry_name library.media)
-DecidesSound e decided.NoMemory = Unit {0}
-DecidesSound e decided.Failed = Unit {0}
+-- a reason for which the machine refuses the command
+abbrev pub Refuses : Files → Store → Command → Undone Refusal → Type 0
+Refuses files e c (undone.Refused r) = Answers files e c (answers.Refused r)
+Refuses files e c undone.Failed = Unit {0}
+Refuses files e c undone.NoMemory = Unit {0}
 
--- the disk failed while it was decided
-abbrev pub deciding_failed : Decided → Bool
-deciding_failed (decided.Stay a) = false
-deciding_failed (decided.Turn library edit plan a) = false
-deciding_failed decided.NoMemory = false
-deciding_failed decided.Failed = true
+-- a turn to the machine's next world
+abbrev pub Plans : Files → Store → Command → Turn → Type 0
+Plans files e c turn =
+    (log : Log) → Manages files e c turn.plan.changes (record { library = turn.library; images = edited turn.edit e.images; log = log }) turn.answer
+
+-- what was decided
+abbrev pub Decides : Files → Store → Command → Result Decision (Undone Refusal) → Type 0
+Decides files e c (Ok (decisions.Answer a)) = Answers files e c a
+Decides files e c (Ok (decisions.Turn turn)) = Plans files e c turn
+Decides files e c (Err it) = Refuses files e c it
+
+-- what holds of a turn over any disk
+abbrev pub IsSoundTurn : Store → Turn → Type 0
+IsSoundTurn e turn =
+    IsLibrary turn.library × IsQuiet turn.library × (map image_name (edited turn.edit e.images) ≡ map medium_entry_name turn.library.media)
+
+abbrev pub DecidesSound : Store → Result Decision (Undone Refusal) → Type 0
+DecidesSound e (Ok (decisions.Answer a)) = Unit {0}
+DecidesSound e (Ok (decisions.Turn turn)) = IsSoundTurn e turn
+DecidesSound e (Err it) = Unit {0}

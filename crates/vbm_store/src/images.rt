@@ -3,12 +3,14 @@
 ghost use Rattle.std.specs.Prelude.{◌≡◌, ◌+◌, ◌≤◌, length, [], ◌∷◌, ◌++◌, OnOk, OnErr, vec_len, vec_capacity};
 ghost use Rattle.vbm_named.specs.Names.{put_by, without};
 ghost use Rattle.vbm_named.specs.Places.{place_for};
-ghost use Rattle.vbm_store.specs.Serves.{image_name};
+ghost use Rattle.vbm_store.specs.Serves.{image_id, image_name};
 ghost use Rattle.vbm_store.specs.Edits.{HasRoom, edited};
 
 use crate::store::Image;
 use std::alloc::Global;
 use std::marker::Model;
+use uuid::Uuid;
+use vbm_ids::Identified;
 use vbm_named::Named;
 use vbm_named::names::{is_before, is_same};
 use vbm_ports::{NoMemory, Text};
@@ -18,6 +20,14 @@ impl Named for Image {
 
     fn name(&self) -> &[u8] {
         self.name.bytes()
+    }
+}
+
+impl Identified for Image {
+    ghost id_of = { image_id };
+
+    fn id(&self) -> Uuid {
+        self.header.id
     }
 }
 

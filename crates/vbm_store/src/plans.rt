@@ -12,26 +12,23 @@ ghost use Rattle.vbm_volume.specs.Made.{IsNewHeader};
 ghost use Rattle.vbm_registry.specs.Library.{library_name, spelling, IsLibrary, IsQuiet};
 ghost use Rattle.vbm_registry.specs.Reading.{library_in};
 ghost use Rattle.vbm_store.specs.Plans.{library_changes, gap_changes, front_changes, image_changes, EndsBy};
+ghost use Rattle.vbm_intent.specs.declared.limits.TheConstants.{MOST_CHANGES};
+ghost use Rattle.vbm_registry.specs.declared.library.TheConstants.{LONGEST_LIBRARY};
 
 use std::alloc::Global;
-use vbm_header::{Header, write_header};
+use vbm_header::{Header, WRITTEN_LEN, write_header};
 use vbm_intent::{Change, Plan};
-use vbm_ports::{Bytes, NoMemory, Text};
+use vbm_ports::{Bytes, LIBRARY_NAME, NoMemory, Text};
 use vbm_registry::{Library, encode};
-
-pub const LIBRARY_NAME: &[u8] = b"library.vbm";
-
-// How many bytes `write_header` makes.
-const WRITTEN_LEN: u64 = 472;
 
 // Each of these adds a change behind the others of its file.
 
 fn push_write(alloc: Global, plan: &mut Plan, name: &[u8], bytes: Bytes) -> Result<(), NoMemory>
     requires allowed { IsAllowed (Write name.now 0 bytes) }
     requires apart { of_file name.now plan.old.changes ≡ [] }
-    requires bytes { length bytes ≤ 2 ^ 20 }
+    requires bytes { length bytes ≤ LONGEST_LIBRARY }
     requires small { body_size plan.old.changes ≤ 2 ^ 24 }
-    requires few { length plan.old.changes < 2 ^ 16 }
+    requires few { length plan.old.changes < MOST_CHANGES }
     ensures ok { OnOk result (plan.new.changes ≡ plan.old.changes ++ Write name.now 0 bytes ∷ []) }
     ensures behind { OnOk result (EndsBy (length bytes) (of_file name.now plan.new.changes)) }
     ensures size { OnOk result (body_size plan.new.changes ≤ body_size plan.old.changes + length bytes + 100) }
@@ -52,7 +49,7 @@ fn push_fill(
     requires allowed { IsAllowed (Fill name.now at len byte) }
     requires apart { EndsBy at (of_file name.now plan.old.changes) }
     requires small { body_size plan.old.changes ≤ 2 ^ 24 }
-    requires few { length plan.old.changes < 2 ^ 16 }
+    requires few { length plan.old.changes < MOST_CHANGES }
     ensures ok { OnOk result (plan.new.changes ≡ plan.old.changes ++ Fill name.now at len byte ∷ []) }
     ensures behind { OnOk result (EndsBy (at + len) (of_file name.now plan.new.changes)) }
     ensures size { OnOk result (body_size plan.new.changes ≤ body_size plan.old.changes + 100) }
@@ -71,7 +68,7 @@ fn push_cut(alloc: Global, plan: &mut Plan, name: &[u8], len: u64) -> Result<(),
     requires allowed { IsAllowed (Cut name.now len) }
     requires apart { EndsBy len (of_file name.now plan.old.changes) }
     requires small { body_size plan.old.changes ≤ 2 ^ 24 }
-    requires few { length plan.old.changes < 2 ^ 16 }
+    requires few { length plan.old.changes < MOST_CHANGES }
     ensures ok { OnOk result (plan.new.changes ≡ plan.old.changes ++ Cut name.now len ∷ []) }
     ensures size { OnOk result (body_size plan.new.changes ≤ body_size plan.old.changes + 100) }
     ensures count { OnOk result (length plan.new.changes ≡ length plan.old.changes + 1) }
@@ -108,13 +105,14 @@ fn plan_front(alloc: Global, plan: &mut Plan, name: &[u8], header: &Header) -> R
     ensures size { OnOk result (body_size plan.new.changes ≤ body_size plan.old.changes + 800) }
     ensures count { OnOk result (length plan.new.changes ≡ length plan.old.changes + 3) }
 {
-    let mut start = [0; 472];
+    let mut start = [0; WRITTEN_LEN];
     write_header(header, &mut start);
     let bytes = Bytes::from_slice(alloc, &start)?;
     let off_blocks = u64::from(header.off_blocks);
     let map_len = 4 * u64::from(header.blocks);
+    let written = WRITTEN_LEN as u64;
     push_write(alloc, plan, name, bytes)?;
-    push_fill(alloc, plan, name, WRITTEN_LEN, off_blocks - WRITTEN_LEN, 0)?;
+    push_fill(alloc, plan, name, written, off_blocks - written, 0)?;
     push_fill(alloc, plan, name, off_blocks, map_len, 255)
 }
 
@@ -139,7 +137,7 @@ fn plan_gap(alloc: Global, plan: &mut Plan, name: &[u8], header: &Header) -> Res
 }
 
 /// Adds the making of an image whose blocks are all free: at most five changes, and 1000 bytes.
-pub fn plan_create(
+pub fn plan_image(
     alloc: Global,
     plan: &mut Plan,
     name: &[u8],

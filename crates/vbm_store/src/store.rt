@@ -1,11 +1,13 @@
 //! Stores that are open.
 
-ghost use Rattle.std.specs.Prelude.{OnOk, is_err};
+ghost use Rattle.std.specs.Prelude.{◌≡◌, OnOk, is_err};
 ghost use Rattle.vbm_ports.specs.Counts.{IsCounted};
 ghost use Rattle.vbm_ports.specs.Crash.{Only};
 ghost use Rattle.vbm_ports.specs.Disk.{Passes, OnlyReads};
 ghost use Rattle.vbm_intent.specs.Changes.{changed, Fits};
 ghost use Rattle.vbm_intent.specs.Log.{IsShutInAll, SameBesidesLog, IsBeforeOrAfter};
+ghost use Rattle.vbm_world.specs.Loose.{Unsettled};
+ghost use Rattle.vbm_store.specs.Serves.{IsReady};
 ghost use Rattle.vbm_store.specs.Commits.{HandsBack, Commits, OnNoMemory, commit_failed};
 
 use crate::images::{Edit, Images, apply, reserve};
@@ -13,7 +15,6 @@ use vbm_header::Header;
 use vbm_intent::{Log, Plan};
 use vbm_ports::{Disk, Failed, Text};
 use vbm_registry::Library;
-use vbm_world::Answer;
 
 /// An image file, with its header as it is in the file.
 #[derive(Drop)]
@@ -30,24 +31,6 @@ pub struct Store {
     pub log: Log,
 }
 
-/// What is to be done for a command.
-#[derive(Drop)]
-pub enum Decided {
-    /// The answer leaves the store as it is.
-    Stay(Answer),
-    /// The plan, which may be empty, is committed; then the library is this one, the images are edited, and the answer is given.
-    Turn {
-        library: Library,
-        edit: Edit,
-        plan: Plan,
-        answer: Answer,
-    },
-    /// There was no memory.
-    NoMemory,
-    /// The disk failed.
-    Failed,
-}
-
 /// How a commit ended.
 #[derive(Drop)]
 pub enum Committed {
@@ -60,6 +43,17 @@ pub enum Committed {
 }
 
 impl Store {
+    /// Settles what guests wrote and have not flushed. No command of today leaves anything unsettled, so there is nothing to do.
+    pub fn settle<D: Disk>(&mut self, _disk: &mut D) -> Result<(), Failed>
+        ensures same { self.new ≡ self.old }
+        ensures ready { D.tells → (u : Unsettled)
+            → IsReady self.old (D.state _disk.old) u → IsReady self.new (D.state _disk.new) u }
+        ensures reads { OnlyReads D.tells (D.state _disk.old) (D.state _disk.new) }
+        ensures faults { IsCounted (is_err result) (D.state _disk.old).faults (D.state _disk.new).faults }
+    {
+        Ok(())
+    }
+
     /// Commits a plan, and then holds this library, and its images as they are edited. All memory that this takes is taken before the
     /// commit. Where the plan is empty, the disk is settled.
     pub fn turn<D: Disk>(self, disk: &mut D, library: Library, edit: Edit, plan: &Plan) -> Committed

@@ -1,16 +1,19 @@
 -- A command over an open store, and its close.
-use Rattle.std.proofs.Common.{◌≡◌, ℕ, Ok, refl, sym, ap, subst, ◌∙◌, arith, ◌⊎◌, inl, inr}
+use Rattle.std.proofs.Common.{◌≡◌, ℕ, Ok, refl, sym, ap, subst, ◌∙◌, arith, ◌⊎◌, inl, inr, IsTrue}
 use Rattle.std.proofs.lemmas.Bool.{cases_Bool}
 use Rattle.vbm_ports.specs.Files.{Files}
 use Rattle.vbm_ports.specs.Disk.{DiskState, Passes, OnlyReads, IsCoherent}
 use Rattle.vbm_ports.proofs.States.{Passes-trans}
 use Rattle.vbm_world.specs.declared.command.Command.{Command}
-use Rattle.vbm_world.specs.declared.command.Command.TheVariants.{CreateMedium, OpenMedium, CloseMedium, ShowMediumInfo, ListHdds}
+use Rattle.vbm_world.specs.declared.command.Command.TheVariants.{Write, Fill, Flush}
 use Rattle.vbm_world.specs.declared.command.Answer.{Answer}
 use Rattle.vbm_world.specs.World.{World, off}
-use Rattle.vbm_world.specs.Step.{Outcome, step_of}
+use Rattle.vbm_world.specs.Outcomes.{Outcome}
+use Rattle.vbm_world.specs.Step.{step_of}
 use Rattle.vbm_world.specs.Loose.{Unsettled, all_settled, is_refused, left_unsettled, unsettled_after}
 use Rattle.vbm_world.specs.Texts.{line_of}
+use Rattle.vbm_world.proofs.Numbers.{same_next}
+use Rattle.vbm_served.specs.Served.{is_served, IsServed}
 use Rattle.vbm_registry.specs.Stands.{Stands}
 use Rattle.vbm_engine.specs.declared.engine.Engine.{Engine}
 use Rattle.vbm_engine.specs.declared.engine.Opened.TheVariants.{Open, Fault}
@@ -28,23 +31,16 @@ use Rattle.vbm_top.specs.Run.{status_of, IsSilent, Says, CommandEnds, answered, 
 
 -- ---- what commands leave unsettled
 
-all_left : (c : Command) → left_unsettled all_settled c ≡ all_settled
-all_left (CreateMedium name size variant) = refl
-all_left (OpenMedium name) = refl
-all_left (CloseMedium name delete) = refl
-all_left (ShowMediumInfo name) = refl
-all_left ListHdds = refl
+-- no command that is served writes sectors
+all_left : (c : Command) → IsTrue (is_served c) → left_unsettled all_settled c ≡ all_settled
+all_left (Write vm port lba bytes) served = absurd cc
+all_left (Fill vm port lba count byte) served = absurd cc
+all_left (Flush vm) served = absurd cc
+all_left c served = refl
 
-settled_after : (w : World) (c : Command) → unsettled_after all_settled w c ≡ all_settled
-settled_after w c = elim (cases_Bool (is_refused (step_of w c 0).0)) [ inl against ↦ rw against refl | inr for ↦ rw for (all_left c) ]
-
--- no command of these has a number of its own
-pub same_step : (w : World) (c : Command) (n : ℕ) → step_of w c n ≡ step_of w c 0
-same_step w (CreateMedium name size variant) n = refl
-same_step w (OpenMedium name) n = refl
-same_step w (CloseMedium name delete) n = refl
-same_step w (ShowMediumInfo name) n = refl
-same_step w ListHdds n = refl
+settled_after : (w : World) (c : Command) → IsServed c → unsettled_after all_settled w c ≡ all_settled
+settled_after w c served =
+    elim (cases_Bool (is_refused (step_of w c 0).0)) [ inl against ↦ rw against refl | inr for ↦ rw for (all_left c served.served) ]
 
 -- ---- a close
 
@@ -59,9 +55,9 @@ leaves_served {e = e} {old = old} sound laws laws2 passes u ready image may =
 -- ---- an answer
 
 module _ (tells : Type 0) (files : Files) (e next : Engine) (c : Command) (a : Answer) (d1 d2 d3 : DiskState)
-    (ready : tells → (u : Unsettled) → IsReady e d1 u) (advances : tells → Advances d1 d2 e next c a) where
+    (served : IsServed c) (ready : tells → (u : Unsettled) → IsReady e d1 u) (advances : tells → Advances d1 d2 e next c a) where
   ready_after : tells → IsReady next d2 all_settled
-  ready_after t = subst (IsReady next d2) (settled_after (serves e d1.files) c) ((advances t).ready all_settled (ready t all_settled))
+  ready_after t = subst (IsReady next d2) (settled_after (serves e d1.files) c served) ((advances t).ready all_settled (ready t all_settled))
 
   is_answered : (tells → Stands files (Ok (serves e d1.files))) → tells → IsClosed next d2 d3 → IsAnswered c files a d3
   is_answered stood t closed = record {
@@ -98,9 +94,9 @@ module _ (tells : Type 0) (files : Files) (e next : Engine) (c : Command) (a : A
     where
       at_end : (image : Files) → StandsLoosely (off (serves next d2.files)) all_settled image
           → StandsLoosely (off (step_of (serves e d1.files) c 0).1) (unsettled_after all_settled (serves e d1.files) c) image
-      at_end image is = subst (λ u. StandsLoosely (off (step_of (serves e d1.files) c 0).1) u image) (sym (settled_after (serves e d1.files) c))
+      at_end image is = subst (λ u. StandsLoosely (off (step_of (serves e d1.files) c 0).1) u image) (sym (settled_after (serves e d1.files) c served))
           (subst (λ w. StandsLoosely (off w) all_settled image)
-          (ap (λ (o : Outcome). o.1) ((advances t).by ∙ same_step (serves e d1.files) c (advances t).number)) is)
+          (ap (λ (o : Outcome). o.1) (advances t).by ∙ same_next (serves e d1.files) c (advances t).number 0) is)
 
 -- ---- no memory for a step
 

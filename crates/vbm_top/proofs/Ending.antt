@@ -11,8 +11,8 @@ use Rattle.vbm_world.specs.World.{World, off}
 use Rattle.vbm_world.specs.Texts.{line_of}
 use Rattle.vbm_lines.specs.Lines.{Line, Short, TooLong, words_in}
 use Rattle.vbm_world.specs.Loose.{Unsettled, all_settled}
-use Rattle.vbm_world.specs.Runs.{Untied, Runs, IsCommandLine}
-use Rattle.vbm_world.proofs.Forms.{one_command}
+use Rattle.vbm_served.specs.Runs.{Untied, Runs, IsCommandLine}
+use Rattle.vbm_served.proofs.Commands.{one_command}
 use Rattle.vbm_registry.specs.Stands.{Stands}
 use Rattle.vbm_lines.specs.Inputs.{AreRead, IsAllRead, IsCutOff, IsTooLong}
 use Rattle.vbm_lines.specs.Reader.{Reader, IsAt}

@@ -8,11 +8,12 @@ use Rattle.vbm_ports.specs.Disk.{DiskState, Passes}
 use Rattle.vbm_ports.proofs.States.{Passes-refl, Passes-trans}
 use Rattle.vbm_world.specs.declared.command.Answer.{Answer}
 use Rattle.vbm_world.specs.World.{World, off}
-use Rattle.vbm_world.specs.Step.{Outcome, step_of}
+use Rattle.vbm_world.specs.Outcomes.{Outcome}
+use Rattle.vbm_world.specs.Step.{step_of}
 use Rattle.vbm_world.specs.Texts.{line_of}
 use Rattle.vbm_lines.specs.Lines.{Line, read_lines, lines_done}
 use Rattle.vbm_world.specs.Loose.{Unsettled, all_settled, is_refused}
-use Rattle.vbm_world.specs.Runs.{Untied, Does, skips, refuses, steps, Runs}
+use Rattle.vbm_served.specs.Runs.{Untied, Does, Runs, skips, refuses, steps}
 use Rattle.vbm_lines.specs.Inputs.{AreFirst, AreRead}
 use Rattle.vbm_lines.specs.Reader.{Reader, new_reader, IsAt}
 use Rattle.vbm_lines.proofs.Readers.{starts_at, are_read}
@@ -27,7 +28,7 @@ use Rattle.vbm_top.specs.Streams.{Moment, Stream, Streams, streams}
 use Rattle.vbm_top.specs.Run.{status_of}
 use Rattle.vbm_top.specs.Script.{texts_of, status_of_all, AreSaid, IsReached}
 use Rattle.vbm_top.specs.Turns.{IsPast, TurnsLine, IsAtLine}
-use Rattle.vbm_top.proofs.Commands.{same_step}
+use Rattle.vbm_world.proofs.Numbers.{same_next}
 use Rattle.vbm_top.proofs.Counted.{refusal_no_fault}
 
 -- ---- one line more
@@ -169,7 +170,7 @@ after_line w u line answer next left image (skips is none same kept) stands =
 after_line w u line answer next left image (refuses is none same kept) stands =
     inl (subst (λ v. StandsLoosely (off w) v image) kept (subst (λ v. StandsLoosely (off v) left image) same stands))
 after_line w u line answer next left image (steps c number is tied given to kept) stands =
-    let after : next ≡ (step_of w c 0).1 = to ∙ ap (λ (o : Outcome). o.1) (same_step w c number) in
+    let after : next ≡ (step_of w c 0).1 = to ∙ same_next w c number 0 in
     inr (c, is, inr (subst (λ v. StandsLoosely (off (step_of w c 0).1) v image) kept (subst (λ v. StandsLoosely (off v) left image) after stands)))
 
 -- ---- where a run is

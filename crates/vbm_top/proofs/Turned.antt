@@ -5,13 +5,13 @@ use Rattle.vbm_world.specs.declared.command.Command.{Command}
 use Rattle.vbm_world.specs.declared.command.Answer.{Answer}
 use Rattle.vbm_world.specs.declared.command.Answer.TheVariants.{Refused}
 use Rattle.vbm_world.specs.declared.command.Refusal.TheVariants.{BadLine}
-use Rattle.vbm_world.specs.Step.{Outcome}
+use Rattle.vbm_world.specs.Outcomes.{Outcome}
 use Rattle.vbm_world.specs.Texts.{line_of}
 use Rattle.vbm_lines.specs.Lines.{Line}
 use Rattle.vbm_world.specs.Loose.{Unsettled, unsettled_after}
-use Rattle.vbm_world.specs.Runs.{refuses, steps, IsCommandLine, IsBadLine}
+use Rattle.vbm_served.specs.Runs.{refuses, steps, IsCommandLine, IsBadLine}
 use Rattle.vbm_lines.specs.declared.reader.Next.{Next}
-use Rattle.vbm_lines.specs.Reader.{Reader, Gives}
+use Rattle.vbm_lines.specs.Reader.{Reader, GivesLine}
 use Rattle.vbm_engine.specs.declared.engine.Engine.{Engine}
 use Rattle.vbm_engine.specs.Serves.{serves, FitsDisk, IsReady}
 use Rattle.vbm_engine.specs.Steps.{Advances}
@@ -25,9 +25,9 @@ use Rattle.vbm_top.specs.Turns.{IsPast, TurnsCommand, TurnsLine}
 use Rattle.vbm_top.proofs.Counted.{answer_no_fault, says_no_fault}
 
 -- what a line gives, where it is told which
-pub gives_as : (next is : Next) (r : Reader) (input rest : List ℕ) (lines : List Line) → next ≡ is → Gives next r input rest lines
-    → Gives is r input rest lines
-gives_as next is r input rest lines same gives = subst (λ (n : Next). Gives n r input rest lines) same gives
+pub gives_as : (next is : Next) (r : Reader) (input rest : List ℕ) (lines : List Line) → next ≡ is → GivesLine next r input rest lines
+    → GivesLine is r input rest lines
+gives_as next is r input rest lines same gives = subst (λ (n : Next). GivesLine n r input rest lines) same gives
 
 past_command : (old new : DiskState) (e next : Engine) (c : Command) (a : Answer) (line : Line) → IsCommandLine line c
     → Advances old new e next c a → IsPast old new e next line (Some a)

@@ -14,7 +14,8 @@ use Rattle.vbm_world.specs.declared.command.Answer.TheVariants.{Id}
 use Rattle.vbm_world.specs.World.{World, off}
 use Rattle.vbm_world.specs.Step.{step_of}
 use Rattle.vbm_lines.specs.Lines.{Words}
-use Rattle.vbm_world.specs.Texts.{IsNoCommand, id_text, line_of}
+use Rattle.vbm_served.specs.Served.{IsNoCommand}
+use Rattle.vbm_world.specs.Texts.{id_text, line_of}
 use Rattle.vbm_world.specs.Loose.{Unsettled, all_settled, is_refused}
 use Rattle.vbm_registry.specs.declared.fault.BadStore.{BadStore}
 use Rattle.vbm_registry.specs.declared.fault.BadStore.TheVariants.{NoLibrary, BadLog, BadLibrary, MissingFile, BadImage, WrongType, WrongId, BrokenLink, SameId}

@@ -10,7 +10,7 @@ use Rattle.vbm_world.specs.World.{World, off}
 use Rattle.vbm_world.specs.Texts.{line_of}
 use Rattle.vbm_lines.specs.Lines.{Line, lines_done}
 use Rattle.vbm_world.specs.Loose.{Unsettled, all_settled, is_refused}
-use Rattle.vbm_world.specs.Runs.{IsCommandLine, Untied, Runs}
+use Rattle.vbm_served.specs.Runs.{IsCommandLine, Untied, Runs}
 use Rattle.vbm_lines.specs.Inputs.{AreFirst, AreRead, IsAllRead, IsCutOff, IsTooLong}
 use Rattle.vbm_registry.specs.declared.fault.BadStore.{BadStore}
 use Rattle.vbm_registry.specs.Stands.{Stands}

@@ -5,10 +5,11 @@ use Rattle.vbm_ports.specs.Disk.{DiskState}
 use Rattle.vbm_world.specs.declared.command.Command.{Command}
 use Rattle.vbm_world.specs.declared.command.Answer.{Answer}
 use Rattle.vbm_world.specs.World.{World, off}
-use Rattle.vbm_world.specs.Texts.{IsSpelled, line_of}
+use Rattle.vbm_world.specs.Texts.{line_of}
 use Rattle.vbm_lines.specs.Lines.{Line, is_skipped}
 use Rattle.vbm_world.specs.Loose.{Unsettled}
-use Rattle.vbm_world.specs.Runs.{IsCommandLine, IsBadLine, Untied, Does}
+use Rattle.vbm_served.specs.Served.{IsServed}
+use Rattle.vbm_served.specs.Runs.{IsCommandLine, IsBadLine, Untied, Does}
 use Rattle.vbm_lines.specs.Inputs.{AreRead, IsAllRead, IsCutOff, IsTooLong}
 use Rattle.vbm_lines.specs.Reader.{Reader, IsAt}
 use Rattle.vbm_engine.specs.declared.engine.Engine.{Engine}
@@ -33,10 +34,10 @@ IsRequest line Bad = IsBadLine line
 IsRequest line (Do command) = IsCommandLine line command
 
 -- what holds of a request by itself
-abbrev pub IsSpelledRequest : Request → Type 0
-IsSpelledRequest Skip = Unit {0}
-IsSpelledRequest Bad = Unit {0}
-IsSpelledRequest (Do command) = IsSpelled command
+abbrev pub IsServedRequest : Request → Type 0
+IsServedRequest Skip = Unit {0}
+IsServedRequest Bad = Unit {0}
+IsServedRequest (Do command) = IsServed command
 
 -- the engine that goes on is sound
 abbrev pub IsSoundTurn : Turned → Type 0

@@ -5,7 +5,7 @@ ghost use Rattle.vbm_ports.specs.Counts.{IsCounted};
 ghost use Rattle.vbm_ports.specs.Disk.{Passes};
 ghost use Rattle.vbm_ports.specs.Files.{Files};
 ghost use Rattle.vbm_world.specs.Loose.{Unsettled, all_settled};
-ghost use Rattle.vbm_world.specs.Texts.{IsSpelled};
+ghost use Rattle.vbm_served.specs.Served.{IsServed};
 ghost use Rattle.vbm_registry.specs.Stands.{Stands};
 ghost use Rattle.vbm_engine.specs.Serves.{serves, IsSoundEngine, IsReady};
 ghost use Rattle.vbm_engine.specs.Steps.{IsInCommand};
@@ -30,7 +30,7 @@ fn serve<D: Disk, K: Sink>(
     command: &Command,
 ) -> Status
     requires sound { IsSoundEngine engine }
-    requires spelled { IsSpelled command.now }
+    requires served { IsServed command.now }
     requires ready { D.tells → (u : Unsettled) → IsReady engine (D.state disk.old) u }
     ensures ends { (files : Files) → (D.tells → Stands files (Ok (serves engine (D.state disk.old).files)))
         → CommandEnds D.tells command.now files (D.state disk.new)
@@ -52,7 +52,7 @@ pub(crate) fn do_command<D: Disk, K: Sink>(
     sink: &mut K,
     command: &Command,
 ) -> Status
-    requires { IsSpelled command.now }
+    requires { IsServed command.now }
     ensures ends { CommandEnds D.tells command.now (D.state disk.old).files (D.state disk.new)
         (stream K.tells K.written K.faults sink.old sink.new) result }
     ensures any_moment { D.tells → Passes (D.state disk.old) (D.state disk.new) (IsInRun command.now (D.state disk.old)) }

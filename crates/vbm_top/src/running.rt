@@ -2,7 +2,7 @@
 
 ghost use Rattle.std.specs.Prelude.{◌≡◌, ◌≢◌, ◌<◌, ◌≤◌, ◌^◌, ◌↔◌, ℕ, List};
 ghost use Rattle.vbm_ports.specs.Counts.{Rose, IsCounted};
-ghost use Rattle.vbm_world.specs.Texts.{IsCommand};
+ghost use Rattle.vbm_served.specs.Served.{IsCommand};
 ghost use Rattle.vbm_world.specs.declared.command.Command.{Command};
 ghost use Rattle.vbm_top.specs.Statuses.{code_of, status_in, is_disk_fault, AreCounted};
 ghost use Rattle.vbm_top.specs.Streams.{stream, streams};

@@ -11,7 +11,7 @@ ghost use Rattle.vbm_lines.specs.Reader.{IsAt, left_over};
 ghost use Rattle.vbm_top.specs.Statuses.{is_disk_fault};
 ghost use Rattle.vbm_top.specs.Streams.{stream, streams};
 ghost use Rattle.vbm_top.specs.Script.{RunsLines, RunsScript};
-ghost use Rattle.vbm_top.specs.Turns.{IsRequest, IsSpelledRequest, Asks, asking_failed, OnRequest};
+ghost use Rattle.vbm_top.specs.Turns.{IsRequest, IsServedRequest, Asks, asking_failed, OnRequest};
 
 use crate::saying::write_store;
 use crate::serving::{Request, Turned, answer_request, close_with, request_of};
@@ -40,7 +40,7 @@ enum Asked {
 fn next_request<S: Source>(alloc: Global, lines: &mut Lines, source: &mut S) -> Asked
     ensures asks { (line : Line) × OnRequest (IsRequest line) result × (S.tells → (input : List ℕ) (before : List Line)
         → IsAt lines.old input (S.rest source.old) before → Asks lines.new input (S.rest source.new) before line result) }
-    ensures spelled { OnRequest IsSpelledRequest result }
+    ensures served { OnRequest IsServedRequest result }
     ensures less { OnRequest (λ _. left_over lines.new < left_over lines.old) result }
     ensures most { lines.new.most ≡ lines.old.most }
     ensures faults { IsCounted (asking_failed result) (S.faults source.old) (S.faults source.new) }

@@ -5,14 +5,14 @@ ghost use Rattle.vbm_ports.specs.Counts.{IsCounted};
 ghost use Rattle.vbm_ports.specs.Disk.{Passes};
 ghost use Rattle.vbm_world.specs.World.{off};
 ghost use Rattle.vbm_world.specs.Loose.{Unsettled};
-ghost use Rattle.vbm_world.specs.Texts.{IsSpelled};
+ghost use Rattle.vbm_served.specs.Served.{IsServed};
 ghost use Rattle.vbm_lines.specs.Lines.{Line, Short, says_nothing};
 ghost use Rattle.vbm_engine.specs.Serves.{serves, IsSoundEngine, FitsDisk, IsReady};
 ghost use Rattle.vbm_store.specs.Serves.{StandsLoosely};
 ghost use Rattle.vbm_engine.specs.Steps.{IsInCommand};
 ghost use Rattle.vbm_top.specs.Streams.{stream};
 ghost use Rattle.vbm_top.specs.Run.{Closes, LeavesServed};
-ghost use Rattle.vbm_top.specs.Turns.{IsRequest, IsSpelledRequest, IsSoundTurn, has_broken, TurnsCommand, TurnsLine, IsAtLine};
+ghost use Rattle.vbm_top.specs.Turns.{IsRequest, IsServedRequest, IsSoundTurn, has_broken, TurnsCommand, TurnsLine, IsAtLine};
 
 use crate::saying::write_answer;
 use crate::status::Status;
@@ -52,7 +52,7 @@ pub(crate) fn answer_command<D: Disk, K: Sink>(
     command: &Command,
 ) -> Turned
     requires sound { IsSoundEngine engine }
-    requires spelled { IsSpelled command.now }
+    requires served { IsServed command.now }
     requires fits { D.tells → FitsDisk engine (D.state disk.old) }
     ensures turns { TurnsCommand D.tells (D.state disk.old) (D.state disk.new) engine command.now result
         (stream K.tells K.written K.faults sink.old sink.new) }
@@ -99,7 +99,7 @@ fn say_nothing(words: &Words) -> bool
 /// What a line asks for that is not too long.
 pub(crate) fn request_of(alloc: Global, line: &Text) -> Result<Request, NoMemory>
     ensures request { IfOk result (IsRequest (Short line.now)) }
-    ensures spelled { IfOk result IsSpelledRequest }
+    ensures served { IfOk result IsServedRequest }
 {
     let words = words_of(alloc, line)?;
     if say_nothing(&words) {
@@ -121,7 +121,7 @@ pub(crate) fn answer_request<D: Disk, K: Sink>(
     request: Request,
 ) -> Turned
     requires sound { IsSoundEngine engine }
-    requires spelled { IsSpelledRequest request }
+    requires served { IsServedRequest request }
     requires fits { D.tells → FitsDisk engine (D.state disk.old) }
     ensures turns { (line : Line) → IsRequest line request
         → TurnsLine D.tells (D.state disk.old) (D.state disk.new) engine line result (stream K.tells K.written K.faults sink.old sink.new) }

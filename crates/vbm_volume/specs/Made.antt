@@ -11,6 +11,7 @@ use Rattle.vbm_header.specs.Written.{header_bytes, zeros, AreUuids}
 use Rattle.vbm_volume.specs.Like.{map_end}
 use Rattle.vbm_volume.specs.declared.flat.Variant.{Variant}
 use Rattle.vbm_volume.specs.declared.flat.Variant.TheVariants as variant
+use Rattle.vbm_header.specs.declared.TheConstants.{WRITTEN_LEN}
 
 -- the image type of a base image of a variant
 abbrev pub type_of : Variant → ImageType
@@ -57,7 +58,7 @@ pub record IsMakingHeader (h : Header) : Type 0 where
 
 -- the bytes up to the block map
 abbrev pub made_front : Header → List ℕ
-made_front h = header_bytes h ++ zeros (h.off_blocks - 472)
+made_front h = header_bytes h ++ zeros (h.off_blocks - WRITTEN_LEN)
 
 -- The bytes of a new image: the header, the block map, and data of zeros.
 abbrev pub made_image : Header → List ℕ

@@ -2,9 +2,9 @@ use Rattle.std.proofs.Common.{List, [], ◌∷◌, ◌++◌, length, ◌∙◌, 
 use Rattle.std.proofs.lemmas.List.Elements.{All-rest}
 use Rattle.vbm_ports.specs.Files.{bytes_of}
 use Rattle.vbm_intent.specs.declared.change.Change.{Change}
-use Rattle.vbm_intent.specs.Changes.{after, of_file, IsAllowed}
+use Rattle.vbm_intent.specs.Changes.{file_after, of_file, IsAllowed}
 use Rattle.vbm_intent.specs.Pieces.{change_in}
-use Rattle.vbm_intent.proofs.Applying.{of_file-append, after-append}
+use Rattle.vbm_intent.proofs.Applying.{of_file-append, file_after-append}
 use Rattle.vbm_intent.proofs.check.length_after.Goals as goal
 
 pub loop-left-preserved : goal.loop-left-preserved
@@ -18,7 +18,7 @@ loop-left-preserved c =
       allowed = All-rest IsAllowed next c.next.new.self c.loop-left.rest c.in-Some.ensures.next i.allowed;
       bound = c.length_if_named-now.ensures.bound;
       length = λ file is.
-          ap (λ (l : List Change). length (bytes_of (after l file))) (of_file-append c.args.name.now i.done (next ∷ []))
-          ∙ ap (λ f. length (bytes_of f)) (after-append (of_file c.args.name.now i.done) (of_file c.args.name.now (next ∷ [])) file)
-          ∙ c.length_if_named-now.ensures.length (after (of_file c.args.name.now i.done) file) (i.length file is);
+          ap (λ (l : List Change). length (bytes_of (file_after l file))) (of_file-append c.args.name.now i.done (next ∷ []))
+          ∙ ap (λ f. length (bytes_of f)) (file_after-append (of_file c.args.name.now i.done) (of_file c.args.name.now (next ∷ [])) file)
+          ∙ c.length_if_named-now.ensures.length (file_after (of_file c.args.name.now i.done) file) (i.length file is);
     }

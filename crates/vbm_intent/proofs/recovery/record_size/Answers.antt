@@ -9,7 +9,7 @@ pub returns-clause-answer : goal.returns-clause-answer
 returns-clause-answer g c = λ told.
     let file = (g.D.Disk.state c.args.disk.now).files log_name in
     let counted = length_told file c.in_ok-length.field-0 (c.in_ok-length.ensures.answer told) in
-    let long : 16 ≤ length (bytes_of file) = omega (arith, counted, c.unwrap_or-len.ensures, c.if-len-lt16.false) in
+    let long : 16 ≤ length (bytes_of file) = omega (arith, counted, c.unwrap_or-len.ensures, c.if-len.false) in
     let reads = subst (λ f. Reads (bytes_of (f log_name)) 0 (replicate 16 0) c.read.new.out c.in_ok-read.field-0)
     (c.length.ensures.reads.files told) (c.in_ok-read.ensures.answer told) in
     let tells = head_tells file (replicate 16 0) c.read.new.out c.in_ok-read.field-0 reads long (omega arith) (omega arith) in

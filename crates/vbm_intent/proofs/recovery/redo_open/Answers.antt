@@ -10,6 +10,9 @@ finish-requires-clause-pending g c = λ told.
     pending_after _ told _ _ c.pending.ensures.reads _
     (log_pending _ told _ _ c.read.ensures.reads _ _ _ (c.in-Ok.ensures.answer told) (c.requires.opens told) (omega (arith, c.requires.size told, c.requires.room told, c.min-end.ensures, length-take c.min-end.result c.args.buf.now)) _ found.0 found.1)
 
+pub returns-in_default-clause-any_moment : goal.returns-in_default-clause-any_moment
+returns-in_default-clause-any_moment g c = λ told only. reads_time _ told _ _ c.read.ensures.reads only
+
 pub returns-in-Err-clause-any_moment : goal.returns-in-Err-clause-any_moment
 returns-in-Err-clause-any_moment g c = λ told only. reads_time _ told _ _ (OnlyReads-trans _ _ _ _ c.read.ensures.reads c.pending.ensures.reads) only
 

@@ -2,7 +2,7 @@ use Rattle.std.proofs.Common.{length, is_some, ap, sym, ◌∙◌}
 use Rattle.std.specs.Prelude.{nat_le}
 use Rattle.std.proofs.lemmas.Bool.{leb-false}
 use Rattle.vbm_ids.specs.declared.TheConstants.{NUMBER_LIMIT}
-use Rattle.vbm_world.specs.declared.refusals.TheConstants.{MEDIA_LIMIT}
+use Rattle.vbm_world.specs.declared.limits.TheConstants.{MEDIA_LIMIT}
 use Rattle.vbm_world.specs.Refusals.{capacity_of, is_bad_size}
 use Rattle.vbm_named.proofs.Lists.{has_found}
 use Rattle.vbm_registry.specs.Library.{medium_entry_name}

@@ -12,5 +12,5 @@ pub plan_library-requires-clause-apart : goal.plan_library-requires-clause-apart
 plan_library-requires-clause-apart c =
     let name = c.args.name.now in
     let h = c.args.header.now in
-    ap (of_file library_name) (c.in_ok-plan_create.ensures.ok ∙ ap (λ (cs : List Change). cs ++ image_changes name h) c.new-plan.ensures)
+    ap (of_file library_name) (c.in_ok-plan_image.ensures.ok ∙ ap (λ (cs : List Change). cs ++ image_changes name h) c.new-plan.ensures)
     ∙ image_alone name library_name h (name_sym name library_name ∙ medium_not_library name c.requires.name)

@@ -16,7 +16,7 @@ returns-in-Open-clause-ends g c files stood =
     let d3 = g.D.Disk.state c.close_with.new.disk in
     let sink = stream g.K.Sink.tells g.K.Sink.written g.K.Sink.faults c.args.sink.now c.answer_command.new.sink in
     elim c.in-Open.ensures.turns [
-      | inl done ↦ next_ends g.D.Disk.tells files c.args.engine c.in-Open.next c.args.command.now done.0 d1 d2 d3 c.requires.ready done.2
+      | inl done ↦ next_ends g.D.Disk.tells files c.args.engine c.in-Open.next c.args.command.now done.0 d1 d2 d3 c.requires.served c.requires.ready done.2
           sink c.in-Open.status c.close_with.result stood c.close_with.ensures.images done.1 c.close_with.ensures.closes
       | inr none ↦ memory_ends g.D.Disk.tells files c.args.engine c.in-Open.next c.args.command.now d1 d2 d3 none.2
           sink c.in-Open.status c.close_with.result stood none.0 none.1 c.close_with.ensures.closes
@@ -29,7 +29,7 @@ returns-in-Open-clause-any_moment g c told =
     let d3 = g.D.Disk.state c.close_with.new.disk in
     let step = c.answer_command.ensures.any_moment told all_settled (c.requires.ready told all_settled) in
     elim c.in-Open.ensures.turns [
-      | inl done ↦ next_passes g.D.Disk.tells d1.files c.args.engine c.in-Open.next c.args.command.now done.0 d1 d2 d3 c.requires.ready done.2 told
+      | inl done ↦ next_passes g.D.Disk.tells d1.files c.args.engine c.in-Open.next c.args.command.now done.0 d1 d2 d3 c.requires.served c.requires.ready done.2 told
           step (c.close_with.ensures.any_moment told)
       | inr none ↦ memory_passes g.D.Disk.tells d1.files c.args.engine c.in-Open.next c.args.command.now d1 d2 d3 none.2 told
           (c.requires.ready told) step (c.close_with.ensures.any_moment told)

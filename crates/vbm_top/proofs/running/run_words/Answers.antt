@@ -1,5 +1,5 @@
 use Rattle.std.proofs.Common.{[], ◌∷◌, refl, ap, sym, subst, ◌∙◌}
-use Rattle.vbm_world.proofs.Forms.{one_command}
+use Rattle.vbm_served.proofs.Commands.{one_command}
 use Rattle.vbm_top.specs.Peek.{peeked, answer_of}
 use Rattle.vbm_top.specs.Streams.{stream, streams}
 use Rattle.vbm_top.specs.Run.{RunsInit, RunsCommand}

@@ -1,5 +1,5 @@
 use Rattle.std.proofs.Common.{◌⊎◌, inl, inr, ℕ, ◌<◌, List, length, Bool, IsTrue, ap, sym, subst, ◌∙◌, arith}
-use Rattle.vbm_lines.specs.Reader.{Reader, Gives}
+use Rattle.vbm_lines.specs.Reader.{Reader, GivesLine}
 use Rattle.vbm_lines.specs.Steps.{IsNext}
 use Rattle.vbm_lines.proofs.Readers.{gives_last, moved}
 use Rattle.vbm_lines.proofs.reader.Lines.give_last.Goals as goal
@@ -16,5 +16,5 @@ returns-clause-lines c input rest lines at =
       | else-len-eq0-via-then-len-eq0+else-not-self w ↦ inr (sym skipping ∙ w.if-not-self.false)
       | else-len-eq0-via-else-len-eq0 w ↦ inl (omega (arith, w.if-len-eq0.false, c.len.ensures, ap length bytes))
     ] in
-    subst (λ (r : Reader). Gives c.in_ok-next.next r input rest lines) (moved _ _ _ _ _ _ _ _ _ c.self.view_is c.clear.ensures)
+    subst (λ (r : Reader). GivesLine c.in_ok-next.next r input rest lines) (moved _ _ _ _ _ _ _ _ _ c.self.view_is c.clear.ensures)
     (gives_last c.args.self.now input rest lines at c.in_ok-next.next c.requires.ended c.requires.none is some)

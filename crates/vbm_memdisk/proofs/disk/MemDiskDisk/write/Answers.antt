@@ -1,7 +1,7 @@
 use Rattle.std.proofs.Common.{◌≡◌, ◌∙◌, ◌/◌, ℕ, length, sym, ap, subst}
 use Rattle.vbm_ports.specs.Counts.{Rose}
 use Rattle.vbm_ports.specs.Crash.{WriteLeaves}
-use Rattle.vbm_memdisk.specs.Past.{Past, past_in, Writes, files_now}
+use Rattle.vbm_memdisk.specs.Past.{Past, past_in, AddsWrite, files_now}
 use Rattle.vbm_memdisk.specs.MemDisk.{past_of, refused_of}
 use Rattle.vbm_memdisk.specs.declared.disk.MemDisk.{MemDisk}
 use Rattle.vbm_memdisk.proofs.Outcomes.{OnOk-map, OnErr-map, OnOk-along, one_or_two, on_success}
@@ -18,8 +18,8 @@ returns-then-is_ok-clause-ok c = λ told.
     OnOk-along c.finish.result c.write-outcome.result _ c.finish.ensures.ok
     (OnOk-map c.write-outcome.result
     (λ it. whole_write_sets c.args.name.now c.args.at c.args.bytes.now old (past_of c.finish.new.self) c.requires.some
-    (subst (λ (now : Past). Writes c.args.name.now c.args.at c.args.bytes.now (length c.args.bytes.now) old now) (sym kept)
-    (subst (λ (before : Past). Writes c.args.name.now c.args.at c.args.bytes.now (length c.args.bytes.now) before (past_in c.write-outcome.new.self)) was it)))
+    (subst (λ (now : Past). AddsWrite c.args.name.now c.args.at c.args.bytes.now (length c.args.bytes.now) old now) (sym kept)
+    (subst (λ (before : Past). AddsWrite c.args.name.now c.args.at c.args.bytes.now (length c.args.bytes.now) before (past_in c.write-outcome.new.self)) was it)))
     c.write-outcome.ensures.ok)
 
 pub returns-then-is_ok-clause-refused : goal.returns-then-is_ok-clause-refused
@@ -42,8 +42,8 @@ returns-else-not-stopped-clause-err c = λ told.
           let kept : past_of c.else-not-stopped.self ≡ past_in w.write.new.self = ap (λ (disk : MemDisk). past_of disk) w.self-is in
           let it = on_success w.write.result _ (sym w.is_err.ensures.value ∙ w.if-is_err.false) w.write.ensures.ok in
           write_leaves_files c.args.name.now c.args.at c.args.bytes.now (length c.args.bytes.now / 2) old (past_of c.else-not-stopped.self)
-          (subst (λ (now : Past). Writes c.args.name.now c.args.at c.args.bytes.now (length c.args.bytes.now / 2) old now) (sym kept)
-          (subst (λ (before : Past). Writes c.args.name.now c.args.at c.args.bytes.now (length c.args.bytes.now / 2) before (past_in w.write.new.self)) was it))
+          (subst (λ (now : Past). AddsWrite c.args.name.now c.args.at c.args.bytes.now (length c.args.bytes.now / 2) old now) (sym kept)
+          (subst (λ (before : Past). AddsWrite c.args.name.now c.args.at c.args.bytes.now (length c.args.bytes.now / 2) before (past_in w.write.new.self)) was it))
       | else-not-stopped-via-else-not-stopped w ↦
           subst (λ (now : Past). WriteLeaves c.args.name.now c.args.at (length c.args.bytes.now) (files_now old) (files_now old) (files_now now)) (sym (ap (λ (disk : MemDisk). past_of disk) w.self-is ∙ was))
           (write_refl c.args.name.now c.args.at (length c.args.bytes.now) (files_now old) (files_now old))
@@ -57,7 +57,7 @@ returns-else-not-stopped-clause-half c = λ listed running room.
       | else-not-stopped-via-then-not-stopped+else-is_err w ↦
           let kept : past_of c.else-not-stopped.self ≡ past_in w.write.new.self = ap (λ (disk : MemDisk). past_of disk) w.self-is in
           let it = on_success w.write.result _ (sym w.is_err.ensures.value ∙ w.if-is_err.false) w.write.ensures.ok in
-          subst (λ (now : Past). Writes c.args.name.now c.args.at c.args.bytes.now (length c.args.bytes.now / 2) old now) (sym kept)
-          (subst (λ (before : Past). Writes c.args.name.now c.args.at c.args.bytes.now (length c.args.bytes.now / 2) before (past_in w.write.new.self)) was it)
+          subst (λ (now : Past). AddsWrite c.args.name.now c.args.at c.args.bytes.now (length c.args.bytes.now / 2) old now) (sym kept)
+          (subst (λ (before : Past). AddsWrite c.args.name.now c.args.at c.args.bytes.now (length c.args.bytes.now / 2) before (past_in w.write.new.self)) was it)
       | else-not-stopped-via-else-not-stopped w ↦ absurd (running (c.is_stopped-stopped.ensures.0 w.if-not-stopped.false))
     ]

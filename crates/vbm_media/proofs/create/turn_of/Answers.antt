@@ -1,7 +1,7 @@
 use Rattle.std.proofs.Common.{sym, subst}
 use Rattle.vbm_registry.specs.Library.{IsLibrary, IsQuiet}
 use Rattle.vbm_media.proofs.Creating.{made_is_library, made_is_quiet}
-use Rattle.vbm_media.proofs.create.create.Goals as goal
+use Rattle.vbm_media.proofs.create.turn_of.Goals as goal
 
 pub plan_of-requires-clause-library : goal.plan_of-requires-clause-library
 plan_of-requires-clause-library c =
