@@ -1,5 +1,7 @@
 //! A world under test, and one that was kept.
 
+ghost use Rattle.vbm_world.specs.Texts.{IsSpelled};
+
 use crate::ended::Ended;
 use crate::files::{read_bad, read_link, read_volume};
 use crate::reading::{first_word, read_id, read_number};
@@ -9,6 +11,7 @@ use uuid::Uuid;
 use vbm_lines::words_of;
 use vbm_ports::Text;
 use vbm_script::{ParseFault, answer_text, parse_form, print};
+use vbm_world::Command;
 
 /// The digits of a sector.
 const SECTOR_DIGITS: usize = 1024;
@@ -69,7 +72,7 @@ impl Bench {
     // `world SEED NEXT INNER` begins a world of nothing.
     fn begin(&mut self, rest: &str) -> Result<(), Ended> {
         let (seed, counters) = first_word(rest);
-        self.world = SoundWorld::new(self.alloc, read_id(seed)?);
+        self.world = SoundWorld::new(self.alloc, Uuid::from_u128(read_id(seed)?));
         self.count(counters)
     }
 
@@ -113,17 +116,33 @@ impl Bench {
     // Does a command, and gives the text of its answer.
     fn answer(&mut self, line: &str) -> Result<String, Ended> {
         let words = words_of(self.alloc, &Text::new(self.alloc, line.as_bytes())?)?;
-        let command = match parse_form(self.alloc, words.as_slice()) {
-            Ok(command) => command,
-            Err(ParseFault::BadLine) => {
-                return Ok(String::from_str(self.alloc, "error 01 BadLine")?);
+        match parse_form(self.alloc, words.as_slice()) {
+            Ok(command) => {
+                self.check_form(words.as_slice(), &command)?;
+                self.step(&command)
             }
-            Err(ParseFault::NoMemory) => return Err(Ended::Memory),
-        };
-        if !are_same(print(self.alloc, &command)?.as_slice(), words.as_slice()) {
-            return Err(Ended::Here("the form is printed otherwise"));
+            Err(ParseFault::BadLine) => Ok(String::from_str(self.alloc, "error 01 BadLine")?),
+            Err(ParseFault::NoMemory) => Err(Ended::Memory),
         }
-        let (world, answer) = self.world.step(self.alloc, &command)?;
+    }
+
+    // Holds the words against those that are printed.
+    fn check_form(&self, words: &[Text], command: &Command) -> Result<(), Ended>
+        requires { IsSpelled command.now }
+    {
+        let printed = print(self.alloc, command)?;
+        if are_same(printed.as_slice(), words) {
+            Ok(())
+        } else {
+            Err(Ended::Here("the form is printed otherwise"))
+        }
+    }
+
+    // Does a command that was read.
+    fn step(&mut self, command: &Command) -> Result<String, Ended>
+        requires { IsSpelled command.now }
+    {
+        let (world, answer) = self.world.step(self.alloc, command)?;
         self.world = world;
         let text = answer_text(self.alloc, &answer)?;
         self.shortened(text.bytes())

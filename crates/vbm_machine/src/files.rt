@@ -6,6 +6,7 @@ ghost use Rattle.vbm_world.specs.Sound.{IsSoundFile, IsSized};
 use crate::ended::Ended;
 use crate::reading::{first_word, read_byte, read_id, read_number};
 use std::alloc::Global;
+use uuid::Uuid;
 use vbm_ports::Sequence;
 use vbm_volume::{Flat, Variant, Volume};
 use vbm_world::{LinkFile, LinkSectors, Shelved, is_bad_size};
@@ -30,8 +31,8 @@ pub(crate) fn read_volume(alloc: Global, rest: &str) -> Result<Shelved, Ended>
     let flat = read_flat(alloc, rest)?;
     let capacity = capacity_of(flat.len())?;
     Ok(Shelved::Volume(Volume {
-        id: read_id(id)?,
-        modify: read_id(modify)?,
+        id: Uuid::from_u128(read_id(id)?),
+        modify: Uuid::from_u128(read_id(modify)?),
         variant: read_variant(variant)?,
         capacity,
         flat,
@@ -49,10 +50,10 @@ pub(crate) fn read_link(alloc: Global, rest: &str) -> Result<Shelved, Ended>
     let sectors = read_sectors(alloc, rest)?;
     let capacity = capacity_of(sectors.len() as u64)?;
     Ok(Shelved::Link(LinkFile {
-        id: read_id(id)?,
-        modify: read_id(modify)?,
-        link: read_id(link)?,
-        parent_modify: read_id(parent_modify)?,
+        id: Uuid::from_u128(read_id(id)?),
+        modify: Uuid::from_u128(read_id(modify)?),
+        link: Uuid::from_u128(read_id(link)?),
+        parent_modify: Uuid::from_u128(read_id(parent_modify)?),
         capacity,
         sectors,
     }))

@@ -20,10 +20,10 @@ pub(crate) fn read_number(word: &str) -> Result<u64, Ended> {
     }
 }
 
-/// An identifier.
-pub(crate) fn read_id(word: &str) -> Result<Uuid, Ended> {
+/// The number of an identifier.
+pub(crate) fn read_id(word: &str) -> Result<u128, Ended> {
     match Uuid::try_parse_ascii(word.as_bytes()) {
-        Ok(id) => Ok(id),
+        Ok(id) => Ok(id.as_u128()),
         Err(_) => Err(Ended::Here("no identifier")),
     }
 }

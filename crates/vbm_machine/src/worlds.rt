@@ -1,7 +1,11 @@
 //! Worlds that commands may be done in.
 
-ghost use Rattle.std.specs.Prelude.{◌≡◌, ◌≤◌, ◌^◌};
-ghost use Rattle.vbm_world.specs.Sound.{IsSoundFile};
+ghost use Rattle.std.specs.Prelude.{◌≡◌, ◌≤◌, ◌^◌, false, is_some, IfOk, IsTrue};
+ghost use Rattle.vbm_ports.specs.Names.{is_medium_name};
+ghost use Rattle.vbm_named.specs.Names.{find_by, put_by, Rises};
+ghost use Rattle.vbm_world.specs.World.{medium_name};
+ghost use Rattle.vbm_world.specs.Seen.{seen, file_name};
+ghost use Rattle.vbm_world.specs.Sound.{IsSound, IsSoundFile};
 ghost use Rattle.vbm_world.specs.Texts.{IsSpelled};
 
 use crate::ended::Ended;
@@ -29,6 +33,34 @@ impl Model for SoundWorld {
     ghost view = { λ sound. sound.world };
 
     ghost invariant = { λ sound. IsSound (seen sound.world) × Rises file_name sound.world.shelf };
+}
+
+// A sound world with one more file on the shelf, of a name that is free.
+fn with_shelved(alloc: Global, world: &World, file: ShelfFile) -> Result<World, NoMemory>
+    requires sound { IsSound (seen world.now) }
+    requires order { Rises file_name world.now.shelf }
+    requires named { IsTrue (is_medium_name file.name) }
+    requires free { is_some (find_by medium_name file.name world.now.media) ≡ false }
+    requires absent { is_some (find_by file_name file.name world.now.shelf) ≡ false }
+    requires content { IsSoundFile file.content }
+    ensures sound { IfOk result (λ new. IsSound (seen new)) }
+    ensures order { IfOk result (λ new. Rises file_name new.shelf) }
+{
+    shelved(alloc, world, file)
+}
+
+// A world with one more file on the shelf.
+fn shelved(alloc: Global, world: &World, file: ShelfFile) -> Result<World, NoMemory>
+    ensures { IfOk result (λ new. new ≡ record world.now { shelf = put_by file_name file world.now.shelf }) }
+{
+    Ok(World {
+        seed: world.seed,
+        next: world.next,
+        inner: world.inner,
+        media: world.media.copied(alloc)?,
+        machines: world.machines.copied(alloc)?,
+        shelf: names::with(alloc, world.shelf.as_slice(), file)?,
+    })
 }
 
 impl SoundWorld {
@@ -92,14 +124,7 @@ impl SoundWorld {
             content,
         };
         Ok(SoundWorld {
-            world: World {
-                seed: self.world.seed,
-                next: self.world.next,
-                inner: self.world.inner,
-                media: self.world.media.copied(alloc)?,
-                machines: self.world.machines.copied(alloc)?,
-                shelf: names::with(alloc, self.world.shelf.as_slice(), file)?,
-            },
+            world: with_shelved(alloc, &self.world, file)?,
         })
     }
 

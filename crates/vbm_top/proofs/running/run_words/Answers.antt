@@ -60,3 +60,6 @@ returns-in-Ok-clause-counted g c =
 
 pub returns-in-Err-BadLine-clause-init : goal.returns-in-Err-BadLine-clause-init
 returns-in-Err-BadLine-clause-init g c = λ seed is. absurd (c.in_default-init_words.ensures c.args.fresh seed is)
+
+pub returns-in-Ok-clause-init : goal.returns-in-Ok-clause-init
+returns-in-Ok-clause-init g c = λ seed is. absurd (c.in_default-init_words.ensures c.args.fresh seed is)
