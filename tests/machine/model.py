@@ -1,4 +1,4 @@
-"""The abstract machine again, written from docs/MACHINE.md alone and apart from the sources, to be compared with the plain program.
+"""The abstract machine again, after docs/MACHINE.md and apart from the sources, to be compared with the plain program.
 
 A disk is a list of bytes, one for each sector: sectors are always filled with one byte here.
 """
