@@ -1,0 +1,3 @@
+pub mod Entry
+pub mod Pending
+pub mod Used
