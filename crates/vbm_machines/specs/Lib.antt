@@ -1,0 +1,4 @@
+pub mod Renumbering
+pub mod Slots
+pub mod Snapshots
+pub mod Holders

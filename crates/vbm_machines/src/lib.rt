@@ -1,6 +1,15 @@
-//! Machines as a library lists them: their slots, their snapshots, and which images each uses.
+//! Machines as a library lists them: their slots, their snapshots, which images each uses, and the edits of all these.
 #![tactic(auto)]
 
+mod holders;
+mod renumbering;
+mod slots;
+mod snapshots;
+
+pub use holders::holders_of;
+pub use renumbering::{Renumbering, renumbered};
+pub use slots::{attach, detach, numbers_to_reset, reset};
+pub use snapshots::{dependents, numbers_to_restore, numbers_to_take, remove, restore_to, take};
 use std::alloc::Global;
 use vbm_named::{ByName, Named};
 use vbm_ports::{Copied, NoMemory, Sequence, Text};
