@@ -10,12 +10,11 @@ ghost use Rattle.vbm_volume.specs.Marks.{is_marked, MarksOneMore};
 ghost use Rattle.vbm_blockmap.specs.declared.used.TheConstants.{POSITION_LIMIT};
 ghost use Rattle.vbm_blockmap.specs.Used.{marked_count, AreFull, IsLeast, MarksMap, MarksWords};
 
-use crate::reading::read_words;
 use std::alloc::Global;
 use std::marker::Model;
 use vbm_header::Header;
 use vbm_ports::{Disk, Failed, NoMemory};
-use vbm_volume::{Marks, word_at};
+use vbm_volume::{Marks, read_words, word_at};
 
 /// Each position that is marked is below this one. It is twice as many as an image has blocks.
 pub const POSITION_LIMIT: u32 = 1 << 22;

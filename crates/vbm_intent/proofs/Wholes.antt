@@ -107,6 +107,12 @@ pub size_shown : (bytes : List ℕ) (cs : List Change) (n : ℕ) → IsWholeReco
 size_shown [] cs n is same = omega (arith, whole_size (record_of []) cs is, same)
 size_shown (b ∷ bytes) cs n is same = omega (arith, whole_size (b ∷ bytes) cs is, same)
 
+pub text_some : (c : Change) → 2 ≤ text_size c
+text_some (Write name at bytes) = omega arith
+text_some (Fill name at len byte) = omega arith
+text_some (Cut name len) = omega arith
+text_some (Remove name) = omega arith
+
 pub name_short : (c : Change) → IsAllowed c → length (name_of c) < 256
 name_short c allowed = omega (arith, store_name_short (name_of c) allowed.store)
 

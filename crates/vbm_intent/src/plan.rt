@@ -5,7 +5,7 @@ ghost use Rattle.std.specs.Int.{to_le_bytes, w32};
 ghost use Rattle.vbm_intent.specs.Changes.{name_of, of_file, IsAllowed, IsApart, IsRecordable};
 ghost use Rattle.vbm_intent.specs.Record.{IsRecord, IsPlan, count_of};
 ghost use Rattle.vbm_intent.specs.Pieces.{change_in};
-ghost use Rattle.vbm_intent.specs.declared.change.Change.TheVariants.{Write};
+ghost use Rattle.vbm_intent.specs.declared.change.Change.TheVariants.{Write, Fill, Cut};
 ghost use Rattle.vbm_intent.specs.Plan.{change_bytes, text_size, body_size, record_of, changes_of_record, spare_in, with_change, set_bytes, HasBytesAt, IsPlaceOf, IsWholeRecord};
 ghost use Rattle.vbm_intent.specs.declared.limits.TheConstants.{LONGEST_BODY, MOST_CHANGES};
 
@@ -72,7 +72,52 @@ impl Plan {
         ensures changes { self.new.changes ≡ self.old.changes ++ Write name.now at bytes.now ∷ [] }
         ensures spare { self.old.spare ≤ self.new.spare + text_size (Write name.now at bytes.now) }
     {
-        push_onto(&mut self.text, &Piece::Write { name, at, bytes });
+        self.push_in_room(&Piece::Write { name, at, bytes });
+    }
+
+    /// Adds the filling of a range with a byte at the end, in the room that is there. It takes no memory.
+    pub fn push_fill(&mut self, name: &[u8], at: u64, len: u64, byte: u8)
+        requires allowed { IsAllowed (Fill name.now at len byte) }
+        requires apart { IsApart (of_file name.now (self.old.changes ++ Fill name.now at len byte ∷ [])) }
+        requires small { body_size self.old.changes + text_size (Fill name.now at len byte) ≤ LONGEST_BODY }
+        requires few { length self.old.changes < MOST_CHANGES }
+        requires room { text_size (Fill name.now at len byte) ≤ self.old.spare }
+        ensures changes { self.new.changes ≡ self.old.changes ++ Fill name.now at len byte ∷ [] }
+        ensures spare { self.old.spare ≤ self.new.spare + text_size (Fill name.now at len byte) }
+    {
+        self.push_in_room(&Piece::Fill {
+            name,
+            at,
+            len,
+            byte,
+        });
+    }
+
+    /// Adds a cut at the end, in the room that is there. It takes no memory.
+    pub fn push_cut(&mut self, name: &[u8], len: u64)
+        requires allowed { IsAllowed (Cut name.now len) }
+        requires apart { IsApart (of_file name.now (self.old.changes ++ Cut name.now len ∷ [])) }
+        requires small { body_size self.old.changes + text_size (Cut name.now len) ≤ LONGEST_BODY }
+        requires few { length self.old.changes < MOST_CHANGES }
+        requires room { text_size (Cut name.now len) ≤ self.old.spare }
+        ensures changes { self.new.changes ≡ self.old.changes ++ Cut name.now len ∷ [] }
+        ensures spare { self.old.spare ≤ self.new.spare + text_size (Cut name.now len) }
+    {
+        self.push_in_room(&Piece::Cut { name, len });
+    }
+
+    // Adds a change at the end, in the room that is there.
+    fn push_in_room(&mut self, piece: &Piece)
+        requires allowed { IsAllowed (change_in piece.now) }
+        requires recordable { IsRecordable (change_in piece.now) }
+        requires apart { IsApart (of_file (name_of (change_in piece.now)) (self.old.changes ++ change_in piece.now ∷ [])) }
+        requires small { body_size self.old.changes + text_size (change_in piece.now) ≤ LONGEST_BODY }
+        requires few { length self.old.changes < MOST_CHANGES }
+        requires room { text_size (change_in piece.now) ≤ self.old.spare }
+        ensures changes { self.new.changes ≡ self.old.changes ++ change_in piece.now ∷ [] }
+        ensures spare { self.old.spare ≤ self.new.spare + text_size (change_in piece.now) }
+    {
+        push_onto(&mut self.text, piece);
     }
 
     /// Replaces bytes of the write with this index, from a place in them on. It takes no memory.

@@ -1,17 +1,9 @@
 -- What each mode of a medium means (Oracle VM VirtualBox User Manual, "Special image write modes"; SDK, MediumType).
-use Rattle.std.specs.Prelude.{Bool, true, false}
+use Rattle.std.specs.Prelude.{Bool, true, false, if◌then◌else◌}
 use Rattle.vbm_modes.specs.declared.Mode.{Mode}
 use Rattle.vbm_modes.specs.declared.Mode.TheVariants.{Normal, Immutable, Writethrough, MultiAttach, Readonly}
 use Rattle.vbm_modes.specs.declared.AttachKind.{AttachKind}
 use Rattle.vbm_modes.specs.declared.AttachKind.TheVariants.{Direct, Own}
-
--- a machine uses the medium's own image, or one of its own that stands on it
-abbrev pub attach_kind_of : Mode → AttachKind
-attach_kind_of Normal = Direct
-attach_kind_of Immutable = Own
-attach_kind_of Writethrough = Direct
-attach_kind_of MultiAttach = Own
-attach_kind_of Readonly = Direct
 
 -- a machine has an image of its own
 abbrev pub is_own : Mode → Bool
@@ -20,6 +12,10 @@ is_own Immutable = true
 is_own Writethrough = false
 is_own MultiAttach = true
 is_own Readonly = false
+
+-- a machine uses the medium's own image, or one of its own that stands on it
+abbrev pub attach_kind_of : Mode → AttachKind
+attach_kind_of mode = if is_own mode then Own else Direct
 
 -- a running machine that uses the medium's own image keeps others from it
 abbrev pub is_locking : Mode → Bool

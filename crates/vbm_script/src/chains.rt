@@ -1,6 +1,6 @@
 //! The command that imports a chain of files.
 
-ghost use Rattle.std.specs.Prelude.{◌≡◌, ◌↔◌, ◌∷◌, ◌++◌, [], ℕ, List, codes, IsTrue, IfOk, OnOk, MatchOption};
+ghost use Rattle.std.specs.Prelude.{◌≡◌, ◌↔◌, ◌∷◌, ℕ, List, codes, IsTrue, IfOk, MatchOption};
 ghost use Rattle.std.specs.List.{AllByRecursion};
 ghost use Rattle.vbm_world.specs.Texts.{IsForm, IsMedium};
 ghost use Rattle.vbm_world.specs.declared.command.Command.TheVariants.{ImportChain};
@@ -8,6 +8,7 @@ ghost use Rattle.vbm_lines.specs.Lines.{Words};
 ghost use Rattle.vbm_script.specs.Parses.{IsFormed};
 
 use crate::parsing::ParseFault;
+use crate::printing::push_words;
 use crate::values::copy;
 use std::alloc::Global;
 use vbm_ports::{Names, NoMemory, Sequence, Text, names_medium};
@@ -19,21 +20,12 @@ fn are_media(words: &[Text]) -> bool
     words.iter().all(|word| names_medium(word.bytes()))
 }
 
-/// Appends a copy of a name.
-fn push_copy(alloc: Global, names: &mut Names, name: &[u8]) -> Result<(), NoMemory>
-    ensures { OnOk result (names.new ≡ names.old ++ name.now ∷ []) }
-{
-    names.push(Text::new(alloc, name)?)
-}
-
 /// Copies of names.
 fn copies(alloc: Global, list: &[Text]) -> Result<Names, NoMemory>
     ensures { IfOk result (λ names. names ≡ list.now) }
 {
     let mut names = Sequence::new(alloc);
-    for name in list {
-        push_copy(alloc, &mut names, name.bytes())?;
-    }
+    push_words(alloc, &mut names, list)?;
     Ok(names)
 }
 

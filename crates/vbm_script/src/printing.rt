@@ -32,7 +32,7 @@ fn copies(alloc: Global, list: &[&[u8]]) -> Result<Words, NoMemory>
 }
 
 /// Appends copies of words.
-fn push_words(alloc: Global, words: &mut Words, more: &[Text]) -> Result<(), NoMemory>
+pub(crate) fn push_words(alloc: Global, words: &mut Words, more: &[Text]) -> Result<(), NoMemory>
     ensures { OnOk result (words.new ≡ words.old ++ more.now) }
 {
     for word in more {

@@ -1,17 +1,19 @@
 -- Chains, read from the last file down.
-use Rattle.std.proofs.Common.{◌≡◌, ℕ, zero, suc, ◌+◌, ◌*◌, ◌/◌, ◌%◌, ◌<◌, true, false, leb, Bool, List, [], ◌∷◌, ◌++◌, reverse, Ok, refl, sym, ap}
-use Rattle.std.proofs.Common.{◌∙◌}
+use Rattle.std.proofs.Common.{◌≡◌, ℕ, zero, suc, ◌+◌, ◌*◌, ◌/◌, ◌%◌, ◌<◌, ◌≤◌, true, false, leb, Bool, List, [], ◌∷◌, ◌++◌, reverse, Ok, refl, sym, ap}
+use Rattle.std.proofs.Common.{◌∙◌, length, replicate, Some}
 use Rattle.std.proofs.Common.{append_assoc, arith, inl, inr}
-use Rattle.std.specs.Prelude.{IsFalse}
-use Rattle.std.proofs.lemmas.Bool.{cases_Bool, cases_lt, le-leb, lt-leb, ltb-true, ne_eqb}
+use Rattle.std.specs.Prelude.{IsFalse, slice_get, nat_lt, if◌then◌else◌}
+use Rattle.std.proofs.lemmas.Bool.{cases_Bool, cases_lt, le-leb, lt-leb, lt-ltb, le-ltb, ltb-true, ne_eqb}
 use Rattle.std.proofs.lemmas.List.{reverse-append}
+use Rattle.std.proofs.lemmas.Option.{slice_get_past}
 use Rattle.vbm_header.specs.declared.Header.{Header}
-use Rattle.vbm_volume.specs.Chain.{Link, sector_down, count_down, flat_down, chain_sector, chain_count, flat_of_chain}
+use Rattle.vbm_volume.specs.Chain.{Link, sector_down, count_down, flat_down, chain_sector, chain_count, flat_of_chain, FallsFrom, Falls}
 use Rattle.vbm_volume.specs.Image.{image_of, word_of, is_free, is_position}
 use Rattle.vbm_volume.specs.Like.{IsLikeFile}
-use Rattle.vbm_volume.specs.Sectors.{first_sectors, base_sector, flat_of_base, sector_count}
+use Rattle.vbm_volume.specs.Sectors.{first_sectors, base_sector, flat_of_base, sector_by, sector_count}
 use Rattle.vbm_volume.proofs.Chains.{chain_sector-one}
-use Rattle.vbm_volume.proofs.Likes.{same_word}
+use Rattle.vbm_volume.proofs.Likes.{same_word, length-first_sectors, slice_get-first_sectors}
+use Rattle.vbm_volume.proofs.Rising.{falls-past}
 use Rattle.vbm_volume.proofs.Sectors.{word_within}
 
 -- disks of which each sector is the same
@@ -109,3 +111,66 @@ pub like_chain : (f g : List ℕ) (h : Header) (loose : ℕ → Bool) (below abo
 like_chain f g h loose below above e like settled =
     same_disk below ((f, h) ∷ []) ((g, h) ∷ []) above (f, h) (g, h) [] [] refl refl refl
     (λ i. like_sector_down f g h loose (reverse below) i e like (settled i))
+
+-- a chain through an image and one through a file that is like it, at a sector that is not loose
+pub like_chain_sector : (f g : List ℕ) (h : Header) (loose : ℕ → Bool) (below above : List Link) (i : ℕ) → image_of f ≡ Ok h
+    → IsLikeFile h loose f g → (i < sector_count h → IsFalse (loose i))
+    → chain_sector (below ++ (g, h) ∷ above) i ≡ chain_sector (below ++ (f, h) ∷ above) i
+like_chain_sector f g h loose below above i e like settled =
+    let down = λ (l : List ℕ). ap (λ (links : List Link). sector_down links i) (reverse-middle below ((l, h) ∷ []) above) in
+    down g
+    ∙ sector_down-above (reverse above) ((g, h) ∷ reverse below) ((f, h) ∷ reverse below) i
+    (like_sector_down f g h loose (reverse below) i e like settled)
+    ∙ sym (down f)
+
+-- a chain whose last file is like an image: its disk is the same but for loose sectors
+pub like_last : (f g : List ℕ) (h : Header) (loose : ℕ → Bool) (below : List Link) → image_of f ≡ Ok h → IsLikeFile h loose f g
+    → (length (flat_of_chain (below ++ (g, h) ∷ [])) ≡ length (flat_of_chain (below ++ (f, h) ∷ [])))
+    × ((i : ℕ) → IsFalse (loose i)
+    → slice_get (flat_of_chain (below ++ (g, h) ∷ [])) i ≡ slice_get (flat_of_chain (below ++ (f, h) ∷ [])) i)
+like_last f g h loose below e like =
+    let links = λ (l : List ℕ). below ++ (l, h) ∷ [] in
+    let n = sector_count h in
+    let count = λ (l : List ℕ). chain_count-last (below ++ (l, h) ∷ []) (reverse below) (l, h) (reverse-append below ((l, h) ∷ [])) in
+    let size = λ (l : List ℕ). length-first_sectors (chain_sector (below ++ (l, h) ∷ [])) (chain_count (below ++ (l, h) ∷ [])) ∙ count l in
+    let at = λ (l : List ℕ) (i : ℕ) (inside : i < n).
+    slice_get-first_sectors (chain_sector (below ++ (l, h) ∷ [])) (chain_count (below ++ (l, h) ∷ [])) i (omega (arith, count l)) in
+    let past = λ (l : List ℕ) (i : ℕ) (out : n ≤ i). slice_get_past (flat_of_chain (below ++ (l, h) ∷ [])) i (omega (arith, size l)) in (
+      size g ∙ sym (size f),
+      λ i settled. elim (cases_lt i n) [
+        | inl inside ↦
+            at g i inside
+            ∙ ap Some (like_chain_sector f g h loose below [] i e like (λ lt. settled))
+            ∙ sym (at f i inside)
+        | inr out ↦ past g i out ∙ sym (past f i out)
+      ],
+    )
+
+-- ---- one file on others, by the word w of a sector's block
+
+module _ (f : List ℕ) (h : Header) (below : List Link) (i w : ℕ) (is : i < sector_count h → word_of f h (i / 2048) ≡ w) where
+  -- a free block, or one past the capacity, leads to the file below
+  pub down-free : is_free w ≡ true → sector_down ((f, h) ∷ below) i ≡ sector_down below i
+  down-free free = elim (cases_lt i (sector_count h)) [
+    | inl inside ↦ let within : leb (sector_count h) i ≡ false = lt-leb _ _ inside in rw (within, is inside, free) refl
+    | inr past ↦ let out : leb (sector_count h) i ≡ true = le-leb _ _ past in rw out refl
+  ]
+
+  -- any other reads as its word says, and as zeros past the capacity
+  pub down-here : is_free w ≡ false → FallsFrom (sector_count h) below
+      → sector_down ((f, h) ∷ below) i ≡ (if nat_lt i (sector_count h) then sector_by f h w i else replicate 512 0)
+  down-here not_free falls = elim (cases_lt i (sector_count h)) [
+    | inl inside ↦
+        let within : leb (sector_count h) i ≡ false = lt-leb _ _ inside in
+        let counted : nat_lt i (sector_count h) ≡ true = lt-ltb _ _ inside in
+        rw (within, is inside, not_free, counted) refl
+    | inr past ↦
+        let out : leb (sector_count h) i ≡ true = le-leb _ _ past in
+        let none : nat_lt i (sector_count h) ≡ false = le-ltb _ _ past in
+        rw (out, none) (falls-past (sector_count h) below i falls past)
+  ]
+
+-- a chain that rises, without its last file
+pub falls-below : (n : ℕ) (below : List Link) → FallsFrom n below → Falls below
+falls-below n [] falls = tt
+falls-below n (link ∷ below) falls = falls.1

@@ -15,13 +15,13 @@ use Rattle.vbm_header.proofs.Headers.{none_fails}
 use Rattle.vbm_volume.specs.Chain.{Link, count_down, flat_down, chain_count, flat_of_chain}
 use Rattle.vbm_volume.specs.Image.{image_of, map_conditions, positions, word_of, is_position, data_at}
 use Rattle.vbm_volume.specs.Like.{map_end}
-use Rattle.vbm_volume.specs.Made.{new_map, new_allocated, IsNewHeader, made_front, made_image, free_image}
+use Rattle.vbm_volume.specs.Made.{new_map, new_allocated, IsNewHeader, made_front, made_image, free_image, IsLaidOut}
 use Rattle.vbm_volume.specs.Sectors.{base_sector, flat_of_base, sector_count}
 use Rattle.vbm_volume.proofs.Blocks.{distinct_from_blocks}
 use Rattle.vbm_volume.proofs.Downs.{flat_down-free}
 use Rattle.vbm_volume.proofs.Images.{image_of-header}
 use Rattle.vbm_volume.proofs.Likes.{all_positions}
-use Rattle.vbm_volume.proofs.NewHeaders.{IsLaidOut, new_laid_out, length-header_bytes, enough, length-made_front, front_word, front_header}
+use Rattle.vbm_volume.proofs.NewHeaders.{new_laid_out, length-header_bytes, enough, length-made_front, front_word, front_header}
 use Rattle.vbm_volume.proofs.NewImages.{free_word, first_sectors-all}
 use Rattle.vbm_volume.proofs.Pieces.{put-next}
 

@@ -1,12 +1,12 @@
 -- What a file is, by its header first and then by its map.
-use Rattle.std.proofs.Common.{◌≡◌, ℕ, List, ◌++◌, length, take, drop, min, Option, None, Result, Ok, Err, refl, sym, ap, ◌∙◌, arith}
+use Rattle.std.proofs.Common.{◌≡◌, ℕ, ◌+◌, ◌^◌, ◌<◌, List, ◌++◌, length, take, drop, min, Option, None, Result, Ok, Err, refl, sym, ap, ◌∙◌, arith}
 use Rattle.std.proofs.lemmas.List.{length-take, take_at}
 use Rattle.vbm_ports.specs.Files.{Reads}
 use Rattle.vbm_header.specs.declared.BadImage.{BadImage}
 use Rattle.vbm_header.specs.declared.Header.{Header}
 use Rattle.vbm_header.specs.Header.{first_that_fails, header_conditions, header_of, unless, fields}
-use Rattle.vbm_header.proofs.Headers.{unless-ok, unless-err, first_that_fails-append, first_that_fails-found}
-use Rattle.vbm_volume.specs.Image.{image_of, map_conditions, positions}
+use Rattle.vbm_header.proofs.Headers.{accepted, unless-ok, unless-err, first_that_fails-append, first_that_fails-found}
+use Rattle.vbm_volume.specs.Image.{image_of, map_conditions, positions, IsSoundHeader}
 use Rattle.vbm_volume.specs.Faults.{Answers}
 use Rattle.vbm_volume.specs.declared.fault.MapFault.{MapFault}
 use Rattle.vbm_volume.specs.declared.fault.MapFault.TheVariants.{Bad, Failed, NoMemory}
@@ -66,3 +66,19 @@ pub Answers-front : {T : Type 0} (f : List ℕ) (len : ℕ) (e : MapFault) (head
 Answers-front f len (Bad k) header size is = image_of-err_front f len k size is
 Answers-front f len Failed header size is = tt
 Answers-front f len NoMemory header size is = tt
+
+-- an accepted header has sound sizes
+pub sound_header : (f : List ℕ) (len : ℕ) (h : Header) → header_of f len ≡ Ok h → h.allocated < 2 ^ 32 → IsSoundHeader h
+sound_header f len h e few =
+    let facts = accepted f len h e in
+    record {
+      header_end = omega (arith, facts.header_size, facts.header_end);
+      sectors = facts.sectors;
+      some = facts.some;
+      most = facts.most;
+      blocks = facts.blocks;
+      enough = facts.enough;
+      map = facts.map;
+      before_data = facts.before_data;
+      allocated = few;
+    }

@@ -16,24 +16,11 @@ use Rattle.vbm_header.proofs.Headers.{header_of-take}
 use Rattle.vbm_header.proofs.RoundTrip.{header_of-header_bytes}
 use Rattle.vbm_volume.specs.Image.{word_of}
 use Rattle.vbm_volume.specs.Like.{map_end}
-use Rattle.vbm_volume.specs.Made.{new_allocated, IsNewHeader, IsMakingHeader, made_front}
+use Rattle.vbm_volume.specs.Made.{new_allocated, IsLaidOut, IsNewHeader, IsMakingHeader, made_front}
 
 pub length-header_bytes : (h : Header) → length (header_bytes h) ≡ 472
 unfolding start sizes identifiers
 length-header_bytes h = refl
-
--- a new header, whatever its type and its parent
-pub record IsLaidOut (h : Header) : Type 0 where
-  pub cb_header : h.cb_header ≡ 400
-  pub off_blocks : h.off_blocks ≡ 2 ^ 20
-  pub off_data : h.off_data ≡ div_ceil (map_end h) (2 ^ 20) * 2 ^ 20
-  pub sectors : h.capacity % 512 ≡ 0
-  pub some : 512 ≤ h.capacity
-  pub most : h.capacity ≤ 2 ^ 41
-  pub blocks : h.blocks ≡ div_ceil h.capacity (2 ^ 20)
-  pub allocated : h.allocated ≤ h.blocks
-  pub uuids : AreUuids h
-  pub id : IsFalse (is_nil_bytes h.id)
 
 new_allocated-le : (t : ImageType) (n : ℕ) → new_allocated t n ≤ n
 new_allocated-le Dynamic n = omega arith

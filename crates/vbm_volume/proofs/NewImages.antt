@@ -17,12 +17,12 @@ use Rattle.vbm_header.proofs.Fields.{number_at-append, number_at-little_bytes}
 use Rattle.vbm_header.proofs.Headers.{none_fails}
 use Rattle.vbm_volume.specs.Image.{image_of, map_conditions, positions, word_of, is_position, data_at}
 use Rattle.vbm_volume.specs.Like.{map_end}
-use Rattle.vbm_volume.specs.Made.{own_words, new_map, new_allocated, IsNewHeader, made_front, made_image}
+use Rattle.vbm_volume.specs.Made.{own_words, new_map, new_allocated, IsNewHeader, made_front, made_image, IsLaidOut}
 use Rattle.vbm_volume.specs.Sectors.{first_sectors, base_sector, flat_of_base, sector_count}
 use Rattle.vbm_volume.proofs.Blocks.{distinct_from_blocks}
 use Rattle.vbm_volume.proofs.Images.{image_of-header}
 use Rattle.vbm_volume.proofs.Likes.{all_positions}
-use Rattle.vbm_volume.proofs.NewHeaders.{IsLaidOut, new_laid_out, enough, length-made_front, front_word, front_header}
+use Rattle.vbm_volume.proofs.NewHeaders.{new_laid_out, enough, length-made_front, front_word, front_header}
 
 length-own_words : (n : ℕ) → length (own_words n) ≡ 4 * n
 unfolding own_words

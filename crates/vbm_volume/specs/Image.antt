@@ -1,5 +1,5 @@
 -- Which files are images: the block map of VDI 1.1, and all twelve conditions.
-use Rattle.std.specs.Prelude.{ℕ, zero, suc, ◌+◌, ◌*◌, ◌^◌, ◌==◌, ◌&&◌, not, nat_le, nat_lt, Bool, true, List, [], ◌∷◌, ◌++◌, length, filter, Result}
+use Rattle.std.specs.Prelude.{◌≡◌, ℕ, zero, suc, ◌+◌, ◌*◌, ◌^◌, ◌%◌, ◌≤◌, ◌<◌, ◌==◌, ◌&&◌, not, nat_le, nat_lt, Bool, true, List, [], ◌∷◌, ◌++◌, length, filter, Result}
 use Rattle.std.specs.List.{list_any, list_all}
 use Rattle.vbm_header.specs.declared.BadImage.{BadImage}
 use Rattle.vbm_header.specs.declared.BadImage.TheVariants.{PositionCount, PositionFile, PositionTwice}
@@ -47,3 +47,15 @@ map_conditions ps h len =
 -- The header of an accepted image, or else the first of the twelve conditions that fails.
 unfoldable pub image_of : List ℕ → Result Header BadImage
 image_of f = unless (first_that_fails (header_conditions f (length f) ++ map_conditions (positions f (fields f)) (fields f) (length f))) (fields f)
+
+-- What the conditions on sizes and places say of a header, whatever the length of its file is.
+pub record IsSoundHeader (h : Header) : Type 0 where
+  pub header_end : 456 ≤ h.off_blocks
+  pub sectors : h.capacity % 512 ≡ 0
+  pub some : 512 ≤ h.capacity
+  pub most : h.capacity ≤ 2 ^ 41
+  pub blocks : h.blocks ≤ 2 ^ 21
+  pub enough : h.capacity ≤ h.blocks * 2 ^ 20
+  pub map : h.off_blocks ≤ 2 ^ 31
+  pub before_data : h.off_blocks + 4 * h.blocks ≤ h.off_data
+  pub allocated : h.allocated < 2 ^ 32

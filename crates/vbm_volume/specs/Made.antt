@@ -35,6 +35,20 @@ new_allocated Dynamic n = 0
 new_allocated Fixed n = n
 new_allocated Differencing n = 0
 
+-- What all headers that this project makes have in common: the block map stands at 1 MiB, and the data at the first whole MiB after
+-- it.
+pub record IsLaidOut (h : Header) : Type 0 where
+  pub cb_header : h.cb_header ≡ 400
+  pub off_blocks : h.off_blocks ≡ 2 ^ 20
+  pub off_data : h.off_data ≡ div_ceil (map_end h) (2 ^ 20) * 2 ^ 20
+  pub sectors : h.capacity % 512 ≡ 0
+  pub some : 512 ≤ h.capacity
+  pub most : h.capacity ≤ 2 ^ 41
+  pub blocks : h.blocks ≡ div_ceil h.capacity (2 ^ 20)
+  pub allocated : h.allocated ≤ h.blocks
+  pub uuids : AreUuids h
+  pub id : IsFalse (is_nil_bytes h.id)
+
 -- A header as this project makes it: the block map stands at 1 MiB, and the data at the first whole MiB after it.
 pub record IsNewHeader (h : Header) : Type 0 where
   pub cb_header : h.cb_header ≡ 400

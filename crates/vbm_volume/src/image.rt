@@ -7,7 +7,7 @@ ghost use Rattle.vbm_ports.specs.Counts.{Rose};
 ghost use Rattle.vbm_ports.specs.Disk.{OnlyReads};
 ghost use Rattle.vbm_ports.specs.Names.{IsStoreName};
 ghost use Rattle.vbm_volume.specs.Faults.{Answers};
-ghost use Rattle.vbm_volume.specs.Image.{image_of, word_of};
+ghost use Rattle.vbm_volume.specs.Image.{image_of, word_of, IsSoundHeader};
 ghost use Rattle.vbm_volume.specs.Sectors.{base_sector, sector_count};
 
 use crate::Sector;
@@ -35,6 +35,7 @@ pub fn read_image<D: Disk>(
     ensures word { D.tells → IfOk result (λ read. (f : List ℕ) → (D.state disk.old).files name.now ≡ Some f
         → block < read.0.blocks → read.1 ≡ word_of f read.0 block) }
     ensures outside { IfOk result (λ read. read.0.blocks ≤ block → read.1 ≡ 0xFFFFFFFF) }
+    ensures sound { IfOk result (λ read. IsSoundHeader read.0) }
     ensures cause { result ≡ Err MapFault.Failed
         → Rose (D.state disk.old).faults (D.state disk.new).faults }
     ensures no_fault { result ≢ Err MapFault.Failed
@@ -53,6 +54,7 @@ fn read_front<D: Disk>(disk: &mut D, name: &[u8], file_len: u64) -> Result<Heade
         → length f ≡ file_len }
     ensures exact { D.tells → (f : List ℕ) → (D.state disk.old).files name.now ≡ Some f
         → Answers result (λ header. header) (header_of f file_len) }
+    ensures sound { IfOk result IsSoundHeader }
     ensures cause { result ≡ Err MapFault.Failed
         → Rose (D.state disk.old).faults (D.state disk.new).faults }
     ensures no_fault { result ≢ Err MapFault.Failed

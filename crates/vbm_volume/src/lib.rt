@@ -14,6 +14,6 @@ pub use fault::MapFault;
 pub use flat::{Flat, Sector, Variant, Volume};
 pub use image::{read_image, read_sector};
 pub use made::{header_over, making_header, new_header};
-pub use map::{check_map, read_map};
+pub use map::{read_map, read_words};
 pub use marks::Marks;
 pub use positions::word_at;

@@ -3,7 +3,7 @@
 ghost use Rattle.std.specs.Prelude.{◌≡◌, ◌≢◌, ◌≤◌, ◌<◌, ◌+◌, ◌-◌, ◌*◌, ◌++◌, ◌⊎◌, ℕ, List, length, filter, min, take, vec_len, IfOk, IfErr, OnOk, OnErr, Some, Err};
 ghost use Rattle.vbm_header.specs.declared.Header.{Header};
 ghost use Rattle.vbm_header.specs.Field.{number_at};
-ghost use Rattle.vbm_ports.specs.Counts.{Rose};
+ghost use Rattle.vbm_ports.specs.Counts.{counted, Rose};
 ghost use Rattle.vbm_ports.specs.Disk.{OnlyReads};
 ghost use Rattle.vbm_ports.specs.Names.{IsStoreName};
 ghost use Rattle.vbm_volume.specs.Faults.{HasHeader, Answers};
@@ -24,31 +24,8 @@ const PIECE: u32 = 1 << 16;
 const FREE: u32 = 0xFFFF_FFFF;
 
 /// Tests the three conditions on the block map of a file of this length with this header: the first of them that fails is
-/// the answer. It takes memory for a bit for each position, up to 2^22, and for the positions past that.
-pub fn check_map<D: Disk>(
-    alloc: Global,
-    disk: &mut D,
-    name: &[u8],
-    header: &Header,
-    file_len: u64,
-) -> Result<(), MapFault>
-    requires name { IsStoreName name.now }
-    requires told { D.tells → (f : List ℕ) → (D.state disk.old).files name.now ≡ Some f
-        → HasHeader f header.now file_len }
-    ensures exact { D.tells → (f : List ℕ) → (D.state disk.old).files name.now ≡ Some f
-        → Answers result (λ _. header.now) (image_of f) }
-    ensures cause { result ≡ Err MapFault.Failed
-        → Rose (D.state disk.old).faults (D.state disk.new).faults }
-    ensures no_fault { result ≢ Err MapFault.Failed
-        → (D.state disk.new).faults ≡ (D.state disk.old).faults }
-    ensures reads { OnlyReads D.tells (D.state disk.old) (D.state disk.new) }
-{
-    read_map(alloc, disk, name, header, file_len, 0)?;
-    Ok(())
-}
-
-/// Tests the conditions as `check_map` does, and gives the word of one block of the map, or that of a free block where the
-/// map has no such block.
+/// the answer. It gives the word of one block of the map, or that of a free block where the map has no such block. It takes
+/// memory for a bit for each position, up to 2^22, and for the positions past that.
 pub fn read_map<D: Disk>(
     alloc: Global,
     disk: &mut D,
@@ -151,8 +128,13 @@ fn add_piece<D: Disk>(
     Ok(())
 }
 
-// Reads a piece of a block map. Words that the disk does not give count as free.
-fn read_words<D: Disk>(disk: &mut D, name: &[u8], at: u64, piece: &mut [u8]) -> Result<(), Failed>
+/// Reads a piece of a block map by one call of the disk. Words that the disk does not give count as free.
+pub fn read_words<D: Disk>(
+    disk: &mut D,
+    name: &[u8],
+    at: u64,
+    piece: &mut [u8],
+) -> Result<(), Failed>
     requires { IsStoreName name.now }
     ensures fields { D.tells → OnOk result ((f : List ℕ) (o w : ℕ)
         → (D.state disk.old).files name.now ≡ Some f → o + w ≤ length piece.old → at + o + w ≤ length f →
@@ -160,6 +142,7 @@ fn read_words<D: Disk>(disk: &mut D, name: &[u8], at: u64, piece: &mut [u8]) -> 
     ensures cause { OnErr result (Rose (D.state disk.old).faults (D.state disk.new).faults) }
     ensures no_fault { OnOk result ((D.state disk.new).faults ≡ (D.state disk.old).faults) }
     ensures reads { OnlyReads D.tells (D.state disk.old) (D.state disk.new) }
+    ensures calls { (D.state disk.new).calls ≡ counted (D.state disk.old).calls }
 {
     let n = disk.read(name, at, piece)?;
     free_from(piece, n);

@@ -7,13 +7,14 @@ use Rattle.vbm_world.specs.declared.world.WorldSnapshot.{WorldSnapshot}
 use Rattle.vbm_world.specs.declared.world.WorldMachine.{WorldMachine}
 use Rattle.vbm_named.specs.Names.{Name, find_by, without, is_before, Rises}
 use Rattle.vbm_named.proofs.Lists.{name_sym, same_name, find_named, All-find, find_without_other, find_map, each_found}
+use Rattle.vbm_named.proofs.Sums.{count_without, count_gone}
 use Rattle.vbm_world.specs.World.{snapshot_name, has_medium, is_in_snapshot}
 use Rattle.vbm_world.specs.Places.{slots_of, slots_named}
 use Rattle.vbm_world.specs.Tree.{Branch, branch_of, branch_name, IsTree}
 use Rattle.vbm_world.specs.Sound.{first_count}
 use Rattle.vbm_world.specs.Snapshots.{is_this, parent_after, adopted, snapshots_after}
 use Rattle.vbm_world.proofs.Parted.{sum-parted}
-use Rattle.vbm_world.proofs.DeletingTree.{count_without, count_gone, count-map, not_own_parent}
+use Rattle.vbm_world.proofs.DeletingTree.{count-map, not_own_parent}
 
 -- ---- lists
 

@@ -11,7 +11,8 @@ use Rattle.std.proofs.lemmas.Simd.{map-map}
 use Rattle.vbm_world.specs.declared.world.WorldSnapshot.{WorldSnapshot}
 use Rattle.vbm_world.specs.declared.world.WorldMachine.{WorldMachine}
 use Rattle.vbm_named.specs.Names.{Name, find_by, without}
-use Rattle.vbm_named.proofs.Lists.{name_sym, same_name, has_found, find_named, All-find, without_cases, All-without, find_without_other, rises_without, find_map, has_map, rises_map, without_map, All-of_map, All-map, All-join}
+use Rattle.vbm_named.proofs.Lists.{name_sym, same_name, has_found, find_named, All-find, All-without, find_without_other, rises_without, find_map, has_map, rises_map, without_map, All-of_map, All-map, All-join}
+use Rattle.vbm_named.proofs.Sums.{count_none, count_without, count_gone}
 use Rattle.vbm_world.specs.World.{snapshot_name}
 use Rattle.vbm_world.specs.Tree.{Branch, branch_of, branch_name, is_root, Has, IsTree}
 use Rattle.vbm_world.specs.Snapshots.{is_this, dependents, parent_after, adopted, snapshots_after}
@@ -37,36 +38,6 @@ has_any name (b ∷ bs) has = grind (arith, nat_tests)
 module _ {X : Type 0} (nx : X → Name) (p : X → Bool) where
   pub count-cons : (x : X) (xs : List X) → count_by p (x ∷ xs) ≡ cond (p x) 1 0 + count_by p xs
   count-cons x xs = sum_by-cons (λ y. cond (p y) 1 0) x xs
-
-  counts_one : (x : X) → p x ≡ true → cond {A = ℕ} (p x) 1 0 ≡ 1
-  counts_one x e = rw e refl
-
-  pub count_without : (name : Name) (xs : List X) → count_by p (without nx name xs) ≤ count_by p xs
-  count_without name [] = omega arith
-  count_without name (x ∷ xs) = let old = count-cons x xs in let less = count_without name xs in
-      without_cases nx name x xs (λ l. count_by p l ≤ count_by p (x ∷ xs))
-      (λ e. omega arith) (λ e. let now = count-cons x (without nx name xs) in omega arith)
-
-  -- one that counts goes
-  pub count_gone : (name : Name) (x : X) (xs : List X) → find_by nx name xs ≡ Some x → p x ≡ true
-      → count_by p (without nx name xs) + 1 ≤ count_by p xs
-  count_gone name x [] found counts = absurd cc
-  count_gone name x (y ∷ ys) found counts =
-      let old = count-cons y ys in
-      elim (bytes_eq (nx y) name) as (λ b. cond b (Some y) (find_by nx name ys) ≡ Some x
-      → count_by p (cond (not b) (y ∷ without nx name ys) (without nx name ys)) + 1 ≤ count_by p (y ∷ ys)) [
-        | true ↦ λ e. let is : y ≡ x = cc in
-            let one : cond {A = ℕ} (p y) 1 0 ≡ 1 = counts_one y (ap p is ∙ counts) in
-            let less = count_without name ys in omega arith
-        | false ↦ λ e. let now = count-cons y (without nx name ys) in let less = count_gone name x ys e counts in omega arith
-      ] found
-
-  count_none : (xs : List X) → count_by p xs ≤ 0 → AllByRecursion (λ x. p x ≡ false) xs
-  count_none [] none = tt
-  count_none (x ∷ xs) none = let old = count-cons x xs in (zero_false (p x) (omega arith), count_none xs (omega arith)) where
-    zero_false : (b : Bool) → cond b 1 0 ≤ 0 → b ≡ false
-    zero_false true h = absurd (omega arith)
-    zero_false false h = refl
 
 -- ---- a snapshot with at most one dependent goes
 

@@ -13,6 +13,13 @@ use vbm_ids::NUMBER_LIMIT;
 use vbm_named::names::is_same;
 use vbm_ports::{Copied, NoMemory, Sequence};
 
+// Whether a counter has not so many numbers left.
+pub(crate) fn is_short(counter: u64, drawn: u64) -> bool
+    ensures { result ≡ is_short counter drawn }
+{
+    u128::from(counter) + u128::from(drawn) > u128::from(NUMBER_LIMIT)
+}
+
 impl WorldMachine {
     // This machine with other slots.
     pub(crate) fn with_slots(
@@ -37,11 +44,15 @@ impl World {
     pub(crate) fn is_short(&self, drawn: u64) -> bool
         ensures { result ≡ is_short self.now.inner drawn }
     {
-        u128::from(self.inner) + u128::from(drawn) > u128::from(NUMBER_LIMIT)
+        is_short(self.inner, drawn)
     }
 
     // The machines, with one in the place of that of its name.
-    fn machines_with(&self, alloc: Global, new: &WorldMachine) -> Result<WorldMachines, NoMemory>
+    pub(crate) fn machines_with(
+        &self,
+        alloc: Global,
+        new: &WorldMachine,
+    ) -> Result<WorldMachines, NoMemory>
         ensures { IfOk result (λ machines. machines ≡ change_by machine_name new.now.name (λ _. new.now) self.now.machines) }
     {
         let mut machines = Sequence::new(alloc);

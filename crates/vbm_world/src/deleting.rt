@@ -6,8 +6,7 @@ ghost use Rattle.std.specs.Option.{option_copied};
 ghost use Rattle.std.specs.Str.{bytes_eq};
 ghost use Rattle.vbm_named.specs.Names.{change_by};
 ghost use Rattle.vbm_world.specs.World.{machine_name, is_in_snapshot};
-ghost use Rattle.vbm_world.specs.Places.{is_base_of};
-ghost use Rattle.vbm_world.specs.Refusals.{first_refusal, is_short};
+ghost use Rattle.vbm_world.specs.Refusals.{first_refusal};
 ghost use Rattle.vbm_world.specs.Outcomes.{unless_refused};
 ghost use Rattle.vbm_world.specs.Snapshots.{is_this, dependents, parent_after, adopted, snapshots_after, base_slots, inner_slots};
 ghost use Rattle.vbm_world.specs.Snapshots.{slot_of, own_of, is_thawed, thawed_disk, modify_after, medium_after, slot_after};
@@ -16,6 +15,7 @@ ghost use Rattle.vbm_world.specs.Seen.{seen, outcome_of};
 ghost use Rattle.vbm_world.specs.Sound.{IsSound};
 ghost use Rattle.vbm_world.specs.declared.command.Answer.TheVariants as answers;
 
+use crate::changes::is_short;
 use crate::command::{Answer, Refusal};
 use crate::lookups::{has_medium, slots_named};
 use crate::media::Stepped;
@@ -129,37 +129,6 @@ fn without_snapshot(
     })
 }
 
-// The machines, with one in the place of that of its name.
-fn machines_with(
-    alloc: Global,
-    machines: &[WorldMachine],
-    machine: &WorldMachine,
-) -> Result<WorldMachines, NoMemory>
-    ensures { IfOk result (λ all. all ≡ change_by machine_name machine.now.name (λ _. machine.now) machines.now) }
-{
-    let mut all = Sequence::new(alloc);
-    for other in machines {
-        let same = is_same(other.name.bytes(), machine.name.bytes());
-        let next = if same { machine } else { other };
-        all.push(next.copied(alloc)?)?;
-    }
-    Ok(all)
-}
-
-// Whether a snapshot's slot stands on its medium's own file.
-fn is_base(world: &World, parent: &[WorldSlot], slot: &WorldSlot) -> bool
-    ensures { result ≡ is_base_of (seen world.now) parent.now slot.now }
-{
-    let name = slot.medium.bytes();
-    if slot.own.is_none() {
-        return true;
-    }
-    match world.medium(name) {
-        Some(medium) => is_normal(medium.mode) && !has_medium(parent, name),
-        None => false,
-    }
-}
-
 // The slots of a snapshot with copies on their media's own files.
 fn base_slots(
     alloc: Global,
@@ -172,7 +141,7 @@ fn base_slots(
     let parent = slots_named(gone.parent.as_ref(), machine.snapshots.as_slice());
     let mut bases = Sequence::new(alloc);
     for slot in gone.slots.as_slice() {
-        if slot.own.is_some() && is_base(world, parent, slot) {
+        if slot.own.is_some() && world.is_base_of(parent, slot) {
             bases.push(slot.copied(alloc)?)?;
         }
     }
@@ -186,7 +155,7 @@ fn inner_count(world: &World, machine: &WorldMachine, gone: &WorldSnapshot) -> u
     let parent = slots_named(gone.parent.as_ref(), machine.snapshots.as_slice());
     let slots = gone.slots.as_slice().iter();
     slots
-        .filter(|slot| slot.own.is_some() && !is_base(world, parent, slot))
+        .filter(|slot| slot.own.is_some() && !world.is_base_of(parent, slot))
         .count()
 }
 
@@ -375,13 +344,6 @@ fn slots_after(
     Ok(slots)
 }
 
-// Whether a counter has not so many numbers left.
-fn is_short(counter: u64, drawn: usize) -> bool
-    ensures { result ≡ is_short counter drawn }
-{
-    u128::from(counter) + drawn as u128 > u128::from(NUMBER_LIMIT)
-}
-
 // Why the snapshot is not deleted, where it has so many base slots.
 fn delete_refusal(
     world: &World,
@@ -400,27 +362,12 @@ fn delete_refusal(
     if dependents > 1 {
         return Some(Refusal::HasChildren(dependents as u32));
     }
-    if is_short(world.next, bases) || is_short(world.inner, inner_count(world, machine, gone)) {
+    if is_short(world.next, bases as u64)
+        || world.is_short(inner_count(world, machine, gone) as u64)
+    {
         return Some(Refusal::IdsSpent);
     }
     None
-}
-
-// A machine with other slots.
-fn with_slots(
-    alloc: Global,
-    machine: &WorldMachine,
-    slots: WorldSlots,
-) -> Result<WorldMachine, NoMemory>
-    ensures { IfOk result (λ new. new ≡ record machine.now { slots = slots }) }
-{
-    Ok(WorldMachine {
-        name: machine.name.copied(alloc)?,
-        running: machine.running,
-        slots,
-        snapshots: machine.snapshots.copied(alloc)?,
-        current: Copied::copied(&machine.current, alloc)?,
-    })
 }
 
 // The machines after the snapshot is gone.
@@ -437,8 +384,8 @@ fn machines_after(
         (λ _. record less.now { slots = map (slot_after (seen world.now) gone.now after.now) machine.now.slots }) world.now.machines) }
 {
     let slots = slots_after(alloc, world, machine, gone, after)?;
-    let new = with_slots(alloc, less, slots)?;
-    machines_with(alloc, world.machines.as_slice(), &new)
+    let new = less.with_slots(alloc, slots)?;
+    world.machines_with(alloc, &new)
 }
 
 // The world with other media and machines, for which so many numbers were drawn.
@@ -483,7 +430,7 @@ fn deleted(
     ensures shelf { IfOk result (λ new. new.shelf ≡ world.now.shelf) }
 {
     let less = without_snapshot(alloc, machine, gone)?;
-    let after = machines_with(alloc, world.machines.as_slice(), &less)?;
+    let after = world.machines_with(alloc, &less)?;
     let media = media_after(alloc, world, machine, gone, after.as_slice(), bases)?;
     let machines = machines_after(alloc, world, machine, gone, &less, after.as_slice())?;
     let inner = inner_count(world, machine, gone);
