@@ -1,0 +1,10 @@
+pub mod StagedWords
+pub mod SettledFiles
+pub mod SettledImages
+pub mod SettlingPlans
+pub mod StagedBlocks
+pub mod StagedMarks
+pub mod CreatingPlans
+pub mod InnerNames
+pub mod Results
+pub mod SettledFits

@@ -1,0 +1,7 @@
+pub mod Image
+pub mod Images
+pub mod Opened
+pub mod InnerName
+pub mod Creating
+pub mod Staging
+pub mod Settling
