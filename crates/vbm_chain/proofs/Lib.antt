@@ -1,0 +1,4 @@
+pub mod LinkTests
+pub mod SettledLinks
+pub mod ResolvedSectors
+pub mod ReadingPieces
