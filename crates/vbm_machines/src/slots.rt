@@ -278,6 +278,8 @@ pub fn reset(
     requires fresh { length fresh.now ≡ count_by (resets_at_start modes.now) machine.old.slots }
     ensures ok { OnOk result (machine.new ≡ record machine.old { slots = renewed (resets_at_start modes.now) fresh.now machine.old.slots }) }
     ensures err { OnErr result (machine.new ≡ machine.old) }
+    ensures named { OnOk result ((seen : Slot → WorldSlot) → machine_in seen machine.new
+        ≡ record (machine_in seen machine.old) { slots = map seen (renewed (resets_at_start modes.now) fresh.now machine.old.slots) }) }
 {
     let slots = with_resets(alloc, machine.slots.as_slice(), modes, fresh)?;
     machine.slots = slots;
