@@ -1,7 +1,34 @@
-pub mod Fields
-pub mod Items
-pub mod Names
-pub mod Parts
-pub mod Again
-pub mod Stores
-pub mod Worlds
+pub mod Bytes
+pub mod PartLaws
+pub mod GrammarLaws
+pub mod FileAgain
+mod ListLoops
+mod ListEnds
+mod RisingEntries
+mod Bases
+pub mod ListLaws
+pub mod RenumberedLaws
+pub mod PlaceTests
+pub mod CountedLists
+pub mod MediaListed
+pub mod MakingsListed
+pub mod FieldsApart
+pub mod FileLengths
+pub mod PlainFiles
+pub mod PlainReads
+pub mod InnersListed
+pub mod SlotsListed
+pub mod SnapshotsListed
+pub mod MachinesListed
+pub mod NamesAtPlaces
+pub mod InnersNamed
+pub mod SlotsNamed
+pub mod TreesListed
+pub mod MachinesNamed
+pub mod DecodedRules
+pub mod Counts
+pub mod InnerCounts
+pub mod NamedPlaces
+pub mod KeptAtPlaces
+pub mod NamesFit
+pub mod Tallied

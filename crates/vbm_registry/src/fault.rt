@@ -24,3 +24,12 @@ pub enum BadStore {
     /// 9: the image has the identifier of an earlier medium.
     SameId(Text),
 }
+
+/// Why bytes are no library's file.
+#[derive(Clone, Copy, Debug, PartialEq, Eq)]
+pub enum DecodeFault {
+    /// The first bad field begins at this offset.
+    Bad(u32),
+    /// There was no memory.
+    NoMemory,
+}

@@ -2,7 +2,7 @@
 
 ghost use Rattle.std.specs.Prelude.{◌≡◌, IfOk, IsFalse};
 ghost use Rattle.vbm_named.specs.Names.{has_name};
-ghost use Rattle.vbm_registry.specs.Library.{IsLibrary, medium_entry_name, with_entry, without_entry};
+ghost use Rattle.vbm_registry.specs.Library.{IsPlain, medium_entry_name, with_entry, without_entry};
 
 use crate::media::{Media, Medium};
 use std::alloc::Global;
@@ -90,7 +90,7 @@ impl Copied for Library {
 impl Library {
     /// A copy with one more medium, in its place.
     pub fn with_medium(&self, alloc: Global, medium: Medium) -> Result<Library, NoMemory>
-        requires sound { IsLibrary self.now }
+        requires sound { IsPlain self.now }
         requires another { IsFalse (has_name medium_entry_name medium.name self.now.media) }
         ensures { IfOk result (λ l. l ≡ with_entry self.now medium) }
     {

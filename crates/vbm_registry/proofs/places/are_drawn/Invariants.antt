@@ -1,0 +1,10 @@
+use Rattle.std.proofs.Common.{◌≡◌, length}
+use Rattle.std.specs.List.{list_all}
+use Rattle.vbm_registry.specs.AtPlaces.{is_merging_drawn}
+use Rattle.vbm_registry.proofs.places.are_drawn.Given as goal
+
+abbrev pub invariant-loop-rest : goal.invariant-loop-rest
+invariant-loop-rest l = list_all (is_merging_drawn l.next l.inner) l.rest ≡ list_all (is_merging_drawn l.next l.inner) l.mergings
+
+abbrev pub decreases-loop-rest : goal.decreases-loop-rest
+decreases-loop-rest l = length l.rest
