@@ -128,7 +128,9 @@ def refusals(definitions):
 
 def stores():
     """The texts of the refused stores."""
-    used = imported("BadStore", "crates", "vbm_registry", "specs", "Stands.antt")
+    used = set().union(*(imported("BadStore", "crates", "vbm_standing", "specs", file) for file in ("Stands.antt", "Faults.antt")))
+    if re.search(r"const BUILT.*?inner_images: false", text("crates", "vbm_registry", "src", "features.rt"), re.S):
+        used.discard("BrokenLink")
     definitions = Definitions("crates", "vbm_top", "specs", "Run.antt")
     there = first_word(definitions.equations["there_line"][0][1]).removesuffix("\\n")
     return {there} | {first_word(body) for patterns, body in definitions.equations["store_text"] if patterns[0][0] in used}

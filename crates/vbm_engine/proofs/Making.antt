@@ -9,10 +9,16 @@ use Rattle.vbm_ids.specs.Identifier.{IsSeed}
 use Rattle.vbm_intent.specs.declared.change.Change.{Change}
 use Rattle.vbm_intent.specs.Changes.{log_name}
 use Rattle.vbm_intent.specs.Log.{closed, SameBesidesLog, RedoesTo, IsBeforeOrAfter, before as start, done, IsLikeRedone, redo_has_one_result}
-use Rattle.vbm_registry.specs.Library.{library_name, spelling, IsLibrary, IsQuiet}
-use Rattle.vbm_registry.specs.Reading.{library_in}
-use Rattle.vbm_registry.specs.Stands.{library_of, library_file, read_library, held_by, none_changed, Stands, redone}
-use Rattle.vbm_registry.proofs.Stores.{SameMedia, held_if_store, world_frame, medium_not_log, library_not_log, no_redo, not_open}
+use Rattle.vbm_registry.specs.Library.{library_name, IsPlain}
+use Rattle.vbm_registry.specs.Spelling.{spelling}
+use Rattle.vbm_registry.specs.declared.features.TheConstants.{BUILT}
+use Rattle.vbm_registry.specs.Grammar.{library_in}
+use Rattle.vbm_registry.specs.PlaceRules.{keeps_places}
+use Rattle.vbm_standing.specs.Meaning.{none_changed}
+use Rattle.vbm_standing.specs.Stands.{library_of, library_file, read_library, held_by, Stands, redone}
+use Rattle.vbm_registry.proofs.PlainReads.{read_plain}
+use Rattle.vbm_standing.specs.EditedFiles.{SameMediumFiles}
+use Rattle.vbm_standing.proofs.Stores.{held_if_store, world_frame, medium_not_log, library_not_log, no_redo, not_open}
 use Rattle.vbm_engine.specs.declared.engine.Made.{Made}
 use Rattle.vbm_engine.specs.declared.engine.Made.TheVariants as made
 use Rattle.vbm_engine.specs.Opens.{empty_library, new_world, StandsNew, Makes}
@@ -21,8 +27,8 @@ use Rattle.vbm_engine.specs.Inits.{IsNewPlan, with_library, MakesOver, IsOver, b
 use Rattle.vbm_store.proofs.Planned.{library_made, library_frame}
 use Rattle.vbm_store.proofs.Decisions.{medium_not_library}
 
--- an empty library has the rules of one, and is quiet
-pub empty_rules : (seed : List ℕ) → IsSeed seed → IsLibrary (empty_library seed)
+-- an empty library has normal media alone
+pub empty_rules : (seed : List ℕ) → IsSeed seed → IsPlain (empty_library seed)
 empty_rules seed is = record {
   seed = is;
   next = omega arith;
@@ -32,10 +38,9 @@ empty_rules seed is = record {
   media = tt;
   inners = refl;
   machines = refl;
+  making = refl;
+  merging = refl;
 }
-
-pub empty_quiet : (seed : List ℕ) → IsQuiet (empty_library seed)
-empty_quiet seed = record { making = refl; merging = refl }
 
 -- ---- the commit
 
@@ -76,17 +81,17 @@ module _ (seed : List ℕ) (old mid : DiskState) (to : RedoesTo mid.files old.fi
     same = λ name other. ap (λ (f : Files). f name) (settled.only image now);
   })
 
-  module _ (again : library_in (spelling (empty_library seed)) ≡ Ok (empty_library seed)) where
+  module _ (again : library_in BUILT keeps_places (spelling (empty_library seed)) ≡ Ok (empty_library seed)) where
     -- files that are those of now with the library
     held_new : (files : Files) → SameBesidesLog files (with_library seed mid.files) → held_by files ≡ Ok (new_world seed to.result)
     held_new files same =
         let read : library_of files ≡ Ok (empty_library seed) =
         ap library_file (same library_name library_not_log ∙ library_made [] (empty_library seed) mid.files refl) ∙ ap read_library again in
-        let all : SameMedia to.result files = λ name named.
+        let all : SameMediumFiles to.result files = λ name named.
         same name (medium_not_log name named) ∙ library_frame [] (empty_library seed) mid.files name (medium_not_library name named)
         ∙ sym (to.same name (medium_not_log name named)) in
-        held_if_store (empty_library seed) files read (record { own = tt; distinct = tt })
-        ∙ ap Ok (world_frame to.result files all none_changed (empty_library seed) tt)
+        held_if_store (empty_library seed) files read (record { media = tt; distinct = tt; inners = tt })
+        ∙ ap Ok (world_frame to.result files all none_changed (empty_library seed) (read_plain keeps_places _ (empty_library seed) again))
 
     stands_new : (image : Files) → RedoesTo (with_library seed mid.files) image → Stands image (Ok (new_world seed to.result))
     stands_new image done_to = redone done_to.result done_to.redo (held_new done_to.result done_to.same)

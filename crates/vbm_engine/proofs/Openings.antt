@@ -22,10 +22,18 @@ use Rattle.vbm_registry.specs.declared.media.Medium.{Medium}
 use Rattle.vbm_registry.specs.declared.library.Library.{Library}
 use Rattle.vbm_registry.specs.declared.fault.BadStore.{BadStore}
 use Rattle.vbm_registry.specs.declared.fault.BadStore.TheVariants.{SameId}
-use Rattle.vbm_registry.specs.Library.{library_name, head, medium_entry_name, IsLibrary}
-use Rattle.vbm_registry.specs.Reading.{library_in}
-use Rattle.vbm_registry.specs.Stands.{library_file, library_of, read_library, header_in, header_fault, image_fault, file_fault, own_fault, id_in, first_fault, same_id_fault, media_fault, held_by, Stands, redone, bad_log}
-use Rattle.vbm_registry.proofs.Stores.{held_if_store, store_if_no_fault, library_is, quiet_is, library_not_log, stands_redone, stands_alike, stands_once, stands_shut}
+use Rattle.vbm_registry.specs.Library.{library_name, medium_entry_name, IsPlain}
+use Rattle.vbm_registry.specs.Spelling.{head}
+use Rattle.vbm_registry.specs.Named.{NamedLibrary, named}
+use Rattle.vbm_registry.specs.declared.features.TheConstants.{BUILT}
+use Rattle.vbm_registry.specs.Grammar.{library_in}
+use Rattle.vbm_registry.specs.PlaceRules.{keeps_places}
+use Rattle.vbm_standing.specs.Headers.{header_in}
+use Rattle.vbm_standing.specs.Faults.{medium_header_fault, image_fault, file_fault, medium_fault, id_in, first_fault, same_id_fault, media_fault}
+use Rattle.vbm_standing.specs.Stands.{library_file, library_of, read_library, held_by, Stands, redone, bad_log}
+use Rattle.vbm_standing.proofs.FaultFacts.{store_if_no_fault}
+use Rattle.vbm_standing.proofs.PlainStores.{fault_plain}
+use Rattle.vbm_standing.proofs.Stores.{held_if_store, library_is, library_not_log, stands_redone, stands_alike, stands_once, stands_shut}
 use Rattle.vbm_engine.specs.declared.engine.Engine.{Engine}
 use Rattle.vbm_store.specs.declared.store.Image.{Image}
 use Rattle.vbm_engine.specs.declared.engine.Opened.{Opened}
@@ -50,23 +58,23 @@ starts_take : (f : List ℕ) (n : ℕ) → 8 ≤ n → starts_with nat_eq (take 
 starts_take f n long = ap (bytes_eq head) (take-take 8 n f long)
 
 -- a file that is too long is refused by its first bytes
-library_front : (f : List ℕ) (n : ℕ) → n ≡ min (length f) (LONGEST_LIBRARY + 1) → library_in (take n f) ≡ library_in f
+library_front : (f : List ℕ) (n : ℕ) → n ≡ min (length f) (LONGEST_LIBRARY + 1) → library_in BUILT keeps_places (take n f) ≡ library_in BUILT keeps_places f
 unfolding library_in
 library_front f n is = elim (cases_lt LONGEST_LIBRARY (length f)) [
   | inl long ↦
       let whole : length (take n f) ≡ LONGEST_LIBRARY + 1 = omega (arith, length-take n f) in
       rw (starts_take f n (omega arith), lt-ltb LONGEST_LIBRARY (length (take n f)) (omega arith), lt-ltb LONGEST_LIBRARY (length f) long) refl
-  | inr short ↦ ap library_in (take_all n f (omega arith))
+  | inr short ↦ ap (library_in BUILT keeps_places) (take_all n f (omega arith))
 ]
 
 pub front_read : (file : Option (List ℕ)) (old new : List ℕ) (n : ℕ) → file ≢ None → length old ≡ min (length (bytes_of file)) (LONGEST_LIBRARY + 1)
-    → Reads (bytes_of file) 0 old new n → read_library (library_in (take n new)) ≡ library_file file
+    → Reads (bytes_of file) 0 old new n → read_library (library_in BUILT keeps_places (take n new)) ≡ library_file file
 front_read None old new n there long reads = absurd (there refl)
 front_read (Some f) old new n there long reads =
     let some : n ≤ length (take (length old) f) = omega (arith, reads.count) in
     let front : take n new ≡ take (length old) f =
     ap (take n) reads.buffer ∙ take-append-le n (take (length old) f) (drop n old) some ∙ take_all n (take (length old) f) (omega (arith, reads.count)) in
-    ap (λ bytes. read_library (library_in bytes)) front ∙ ap read_library (library_front f (length old) long)
+    ap (λ bytes. read_library (library_in BUILT keeps_places bytes)) front ∙ ap read_library (library_front f (length old) long)
 
 -- ---- the images, one after the other
 
@@ -77,19 +85,19 @@ finds_weaker P R Q S found fault (Err (Refused bad)) finds = fault bad finds
 finds_weaker P R Q S found fault (Err Failed) finds = tt
 finds_weaker P R Q S found fault (Err NoMemory) finds = tt
 
-read_as : (l : Library) (name : Name) (file : Option (List ℕ)) (h : Header) → IsRead file (Ok h)
-    → (file_fault l name file ≡ header_fault l name h) × (h ≡ fields (bytes_of file))
-read_as l name None h read = absurd read
-read_as l name (Some f) h read = (ap (image_fault l name) read, image_fields f h read)
+read_as : (name : Name) (header_fault : Header → Option BadStore) (file : Option (List ℕ)) (h : Header) → IsRead file (Ok h)
+    → (file_fault name header_fault file ≡ header_fault h) × (h ≡ fields (bytes_of file))
+read_as name header_fault None h read = absurd read
+read_as name header_fault (Some f) h read = (ap (image_fault name header_fault) read, image_fields f h read)
 
-pub medium_read : (l : Library) (files : Files) (m : Medium) (image : Image) → image.name ≡ m.name → IsRead (files m.name) (Ok image.header)
+pub medium_read : (l : NamedLibrary) (files : Files) (m : Medium) (image : Image) → image.name ≡ m.name → IsRead (files m.name) (Ok image.header)
     → (r : Result Image (Undone BadStore))
-    → Finds (λ accepted. (header_fault l image.name image.header ≡ None) × (accepted ≡ image)) (λ bad. header_fault l image.name image.header ≡ Some bad) r
-    → Finds (λ accepted. (own_fault l files m ≡ None) × (accepted ≡ image_in files m)) (λ bad. own_fault l files m ≡ Some bad) r
+    → Finds (λ accepted. (medium_header_fault l image.name image.header ≡ None) × (accepted ≡ image)) (λ bad. medium_header_fault l image.name image.header ≡ Some bad) r
+    → Finds (λ accepted. (medium_fault l files m ≡ None) × (accepted ≡ image_in files m)) (λ bad. medium_fault l files m ≡ Some bad) r
 unfolding header_in
 medium_read l files m image name read r =
-    let is = read_as l m.name (files m.name) image.header read in
-    let own : own_fault l files m ≡ header_fault l image.name image.header = is.0 ∙ ap (λ n. header_fault l n image.header) (sym name) in
+    let is = read_as m.name (medium_header_fault l m.name) (files m.name) image.header read in
+    let own : medium_fault l files m ≡ medium_header_fault l image.name image.header = is.0 ∙ ap (λ n. medium_header_fault l n image.header) (sym name) in
     let same : image ≡ image_in files m = λ i. record { name = name i; header = is.1 i } in
     finds_weaker _ _ _ _ (λ accepted fine. (own ∙ fine.0, fine.1 ∙ same)) (λ bad some. own ∙ some) r
 
@@ -115,7 +123,7 @@ pub record Opening (l : Library) (files : Files) (i : ℕ) (images : List Image)
   pub is : images ≡ map (image_in files) (take i l.media)
   pub earlier : List (List ℕ)
   pub same : (id : List ℕ) → list_any (bytes_eq id) earlier ≡ list_any (bytes_eq id) (ids_of images)
-  pub rest : media_fault l files earlier (drop i l.media) ≡ media_fault l files [] l.media
+  pub rest : media_fault (named l) files earlier (drop i l.media) ≡ media_fault (named l) files [] l.media
 
 pub opening_starts : (l : Library) (files : Files) → Opening l files 0 []
 opening_starts l files = record { is = refl; earlier = []; same = λ id. refl; rest = refl }
@@ -123,14 +131,14 @@ opening_starts l files = record { is = refl; earlier = []; same = λ id. refl; r
 module _ (l : Library) (files : Files) (i : ℕ) (images : List Image) (m : Medium) (lt : i < length l.media) (at : m ≡ get_or l.media i m)
     (so_far : Opening l files i images) where
   abbrev later : Option BadStore
-  later = media_fault l files (id_in files m ∷ so_far.earlier) (drop (i + 1) l.media)
+  later = media_fault (named l) files (id_in files m ∷ so_far.earlier) (drop (i + 1) l.media)
 
-  next_fault : first_fault (fault_behind l files (ids_of images) m) later ≡ media_fault l files [] l.media
+  next_fault : first_fault (fault_behind l files (ids_of images) m) later ≡ media_fault (named l) files [] l.media
   next_fault =
-      sym (first_of_three (own_fault l files m) (same_id_fault (ids_of images) m.name (id_in files m)) later)
-      ∙ ap (λ b. first_fault (own_fault l files m) (first_fault (cond b (Some (SameId m.name)) None) later)) (sym (so_far.same (id_in files m)))
-      ∙ ap (λ (n : Medium). media_fault l files so_far.earlier (n ∷ drop (i + 1) l.media)) at
-      ∙ ap (media_fault l files so_far.earlier) (sym (drop_more l.media i m lt))
+      sym (first_of_three (medium_fault (named l) files m) (same_id_fault (ids_of images) m.name (id_in files m)) later)
+      ∙ ap (λ b. first_fault (medium_fault (named l) files m) (first_fault (cond b (Some (SameId m.name)) None) later)) (sym (so_far.same (id_in files m)))
+      ∙ ap (λ (n : Medium). media_fault (named l) files so_far.earlier (n ∷ drop (i + 1) l.media)) at
+      ∙ ap (media_fault (named l) files so_far.earlier) (sym (drop_more l.media i m lt))
       ∙ so_far.rest
 
   pub opening_goes_on : fault_behind l files (ids_of images) m ≡ None → Opening l files (i + 1) (images ++ image_in files m ∷ [])
@@ -146,21 +154,22 @@ module _ (l : Library) (files : Files) (i : ℕ) (images : List Image) (m : Medi
     rest = ap (λ o. first_fault o later) (sym none) ∙ next_fault;
   }
 
-  pub opening_stops : (bad : BadStore) → fault_behind l files (ids_of images) m ≡ Some bad → media_fault l files [] l.media ≡ Some bad
+  pub opening_stops : (bad : BadStore) → fault_behind l files (ids_of images) m ≡ Some bad → media_fault (named l) files [] l.media ≡ Some bad
   opening_stops bad some = sym next_fault ∙ ap (λ o. first_fault o later) some
 
 pub opening_ends : (l : Library) (files : Files) (i : ℕ) (images : List Image) → length l.media ≤ i → Opening l files i images
-    → (media_fault l files [] l.media ≡ None) × (images ≡ map (image_in files) l.media)
+    → (media_fault (named l) files [] l.media ≡ None) × (images ≡ map (image_in files) l.media)
 opening_ends l files i images past so_far = (
-  sym so_far.rest ∙ ap (media_fault l files so_far.earlier) (drop_all i l.media past),
+  sym so_far.rest ∙ ap (media_fault (named l) files so_far.earlier) (drop_all i l.media past),
   so_far.is ∙ ap (map (image_in files)) (take_all i l.media past),
 )
 
 pub holds_from : (tells : Type 0) (told : tells) (old new : DiskState) → OnlyReads tells old new → (l : Library) (images : List Image) → library_of old.files ≡ Ok l
-    → (media_fault l new.files [] l.media ≡ None) × (images ≡ map (image_in new.files) l.media) → Holds l images old.files
+    → (media_fault (named l) new.files [] l.media ≡ None) × (images ≡ map (image_in new.files) l.media) → Holds l images old.files
 holds_from tells told old new reads l images read opened =
-    let here = subst (λ f. (media_fault l f [] l.media ≡ None) × (images ≡ map (image_in f) l.media)) (reads.files told) opened in
-    record { read = read; store = store_if_no_fault l old.files here.0; headers = here.1 }
+    let here = subst (λ f. (media_fault (named l) f [] l.media ≡ None) × (images ≡ map (image_in f) l.media)) (reads.files told) opened in
+    let plain = library_is old.files l read in
+    record { read = read; store = store_if_no_fault (named l) old.files (fault_plain l old.files plain.inners ∙ here.0); headers = here.1 }
 
 -- ---- what the files stand for
 
@@ -198,7 +207,6 @@ image_names files (m ∷ ms) = ap (λ (names : List Name). m.name ∷ names) (im
 sound_if_holds : (e : Store) (files : Files) → Holds e.library e.images files → IsSoundStore e
 sound_if_holds e files holds = record {
   library = library_is files e.library holds.read;
-  quiet = quiet_is files e.library holds.read;
   images = ap (λ (images : List Image). map image_name images) holds.headers ∙ image_names files e.library.media;
 }
 
@@ -209,7 +217,7 @@ opens_as old new e to only shut now holds =
     let sound = sound_if_holds e.store new.files holds in (
       stands_redone new.files old.files _ to (held_if_store e.store.library new.files holds.read holds.store),
       kept_redone old.files new.files e.store.library to holds.read,
-      λ u. settled_ready e.store new u sound holds sound.quiet (unstaged_here e.store new.files u) only shut now,
+      λ u. settled_ready e.store new u sound holds (unstaged_here e.store new.files u) only shut now,
     )
 
 -- ---- a log that is not open
@@ -247,7 +255,7 @@ module _ (old new : DiskState) (shut : IsOpen (old.files log_name) → ⊥) wher
   pub started_passes : Passes old new (RedoesTo old.files) → Passes old new (StandsAlike old.files)
   started_passes time = Passes-weaker old new _ _ time (alike_closed old.files shut)
 
-  pub started_opens : (e : Engine) → IsLibrary e.store.library → SameBesidesLog new.files old.files → Only new.files new.may_leave
+  pub started_opens : (e : Engine) → IsPlain e.store.library → SameBesidesLog new.files old.files → Only new.files new.may_leave
       → IsShutInAll new.may_leave → new.may_leave new.files → Holds e.store.library e.store.images old.files → Opens old new (opened.Open e)
   started_opens e lib same only closes now holds =
       opens_as old new e (record { result = old.files; redo = closed shut refl; same = λ name other. sym (same name other) }) only closes now

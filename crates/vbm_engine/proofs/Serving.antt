@@ -14,7 +14,7 @@ use Rattle.vbm_world.specs.Loose.{Unsettled, unsettled_after}
 use Rattle.vbm_store.specs.declared.store.Store.{Store}
 use Rattle.vbm_store.specs.Serves as stores
 use Rattle.vbm_registry.specs.declared.library.Library.{Library}
-use Rattle.vbm_registry.specs.Library.{medium_entry_name, IsLibrary, IsQuiet}
+use Rattle.vbm_registry.specs.Library.{medium_entry_name, IsPlain}
 use Rattle.vbm_store.specs.Serves.{image_name, StandsLoosely}
 use Rattle.vbm_store.specs.Turns.{IsInStep}
 use Rattle.vbm_store.specs.declared.decision.Turn.{Turn}
@@ -60,7 +60,6 @@ module _ {tells : Type 0} (e : Store) (c : Command) {old mid : DiskState} (reads
 pub sound_turn : (e : Store) (turn : Turn) → IsSoundTurn e turn → (next : Store) → HandsBack e turn.library turn.edit (Done next) → stores.IsSoundStore next
 sound_turn e turn sound next back =
     record {
-      library = subst IsLibrary (sym back.0) sound.0;
-      quiet = subst IsQuiet (sym back.0) sound.1;
-      images = ap (map image_name) back.1 ∙ sound.2 ∙ sym (ap (λ (l : Library). map medium_entry_name l.media) back.0);
+      library = subst IsPlain (sym back.0) sound.0;
+      images = ap (map image_name) back.1 ∙ sound.1 ∙ sym (ap (λ (l : Library). map medium_entry_name l.media) back.0);
     }

@@ -12,7 +12,8 @@ use Rattle.vbm_registry.specs.declared.library.Library.{Library}
 use Rattle.vbm_registry.specs.declared.fault.BadStore.{BadStore}
 use Rattle.vbm_registry.specs.declared.fault.BadStore.TheVariants.{BadLog}
 use Rattle.vbm_registry.specs.Library.{library_name}
-use Rattle.vbm_registry.specs.Stands.{Stands, library_of, world_with, none_changed}
+use Rattle.vbm_standing.specs.Meaning.{world_with, none_runs, none_changed}
+use Rattle.vbm_standing.specs.Stands.{Stands, library_of}
 use Rattle.vbm_engine.specs.declared.engine.Opened.{Opened}
 use Rattle.vbm_engine.specs.declared.engine.Opened.TheVariants as opened
 use Rattle.vbm_engine.specs.declared.engine.Made.{Made}
@@ -69,7 +70,7 @@ empty_library seed = record { seed = seed; next = 0; inner = 0; media = []; inne
 
 -- the world of a new store over files: nothing but the shelf
 abbrev pub new_world : List ℕ → Files → World
-new_world seed files = world_with none_changed (empty_library seed) files
+new_world seed files = world_with none_changed none_runs (empty_library seed) files
 
 -- A library is made over what redo gives of the files: every other file but the log is as there.
 pub record IsMade (seed : List ℕ) (files : Files) (new : DiskState) : Type 0 where

@@ -4,7 +4,9 @@ use Rattle.vbm_ports.specs.Files.{Files}
 use Rattle.vbm_registry.specs.declared.fault.BadStore.{BadStore}
 use Rattle.vbm_registry.specs.declared.library.Library.{Library}
 use Rattle.vbm_registry.specs.declared.media.Medium.{Medium}
-use Rattle.vbm_registry.specs.Stands.{held_by, first_fault, own_fault, same_id_fault, id_in}
+use Rattle.vbm_registry.specs.Named.{named}
+use Rattle.vbm_standing.specs.Faults.{first_fault, medium_fault, same_id_fault, id_in}
+use Rattle.vbm_standing.specs.Stands.{held_by}
 use Rattle.vbm_store.specs.declared.store.Image.{Image}
 use Rattle.vbm_engine.specs.declared.engine.Opened.{Opened}
 use Rattle.vbm_engine.specs.declared.engine.Opened.TheVariants as opened
@@ -28,7 +30,7 @@ ids_of images = map (λ (image : Image). image.header.id) images
 
 -- the fault of a medium behind earlier ones with these identifiers
 abbrev pub fault_behind : Library → Files → List (List ℕ) → Medium → Option BadStore
-fault_behind l files earlier m = first_fault (own_fault l files m) (same_id_fault earlier m.name (id_in files m))
+fault_behind l files earlier m = first_fault (medium_fault (named l) files m) (same_id_fault earlier m.name (id_in files m))
 
 -- the engine holds the files, or they hold a fault
 abbrev pub OpensOf : Files → Opened → Type 0

@@ -8,11 +8,16 @@ ghost use Rattle.vbm_ports.specs.Counts.{IsCounted};
 ghost use Rattle.vbm_ports.specs.Crash.{Only};
 ghost use Rattle.vbm_ports.specs.Disk.{Passes, OnlyReads};
 ghost use Rattle.vbm_ports.specs.Names.{IsStoreName};
+ghost use Rattle.vbm_header.specs.declared.Header.{Header};
 ghost use Rattle.vbm_intent.specs.Changes.{log_name};
 ghost use Rattle.vbm_intent.specs.Log.{IsOpen, recorded_size};
-ghost use Rattle.vbm_registry.specs.Library.{library_name, medium_entry_name, IsLibrary, IsQuiet};
-ghost use Rattle.vbm_registry.specs.Reading.{library_in};
-ghost use Rattle.vbm_registry.specs.Stands.{library_of, read_library, header_fault, file_fault, own_fault, same_id_fault, media_fault, held_by};
+ghost use Rattle.vbm_registry.specs.Library.{library_name, medium_entry_name, IsPlain};
+ghost use Rattle.vbm_registry.specs.declared.features.TheConstants.{BUILT as built};
+ghost use Rattle.vbm_registry.specs.Grammar.{library_in};
+ghost use Rattle.vbm_registry.specs.PlaceRules.{keeps_places};
+ghost use Rattle.vbm_registry.specs.Named.{named};
+ghost use Rattle.vbm_standing.specs.Faults.{medium_header_fault, file_fault, medium_fault, same_id_fault, media_fault};
+ghost use Rattle.vbm_standing.specs.Stands.{library_of, read_library, held_by};
 ghost use Rattle.vbm_store.specs.Undone.{is_failed, has_failed};
 ghost use Rattle.vbm_store.specs.Images.{OpensImage, is_failed_image};
 ghost use Rattle.vbm_store.specs.Serves.{image_name, image_in, Holds};
@@ -129,8 +134,7 @@ fn start<D: Disk>(disk: &mut D, library: Library, images: Images) -> Opened
     requires settled { D.tells → Only (D.state disk.old).files (D.state disk.old).may_leave }
     requires closed { D.tells → IsOpen ((D.state disk.old).files log_name) → ⊥ }
     requires holds { D.tells → Holds library images (D.state disk.old).files }
-    requires rules { IsLibrary library }
-    requires quiet { IsQuiet library }
+    requires rules { IsPlain library }
     requires names { map image_name images ≡ map medium_entry_name library.media }
     ensures opens { D.tells → Opens (D.state disk.old) (D.state disk.new) result }
     ensures sound { OpensSound result }
@@ -154,8 +158,7 @@ fn start<D: Disk>(disk: &mut D, library: Library, images: Images) -> Opened
 fn load<D: Disk>(alloc: Global, disk: &mut D) -> Result<(Library, Images), Undone<BadStore>>
     ensures told { D.tells → Finds
         (λ x. Holds x.0 x.1 (D.state disk.old).files) (λ bad. held_by (D.state disk.old).files ≡ Err bad) result }
-    ensures rules { IfOk result (λ x. IsLibrary x.0) }
-    ensures quiet { IfOk result (λ x. IsQuiet x.0) }
+    ensures rules { IfOk result (λ x. IsPlain x.0) }
     ensures names { IfOk result (λ x. map image_name x.1 ≡ map medium_entry_name (x.0).media) }
     ensures reads { OnlyReads D.tells (D.state disk.old) (D.state disk.new) }
     ensures faults { IsCounted (has_failed result) (D.state disk.old).faults (D.state disk.new).faults }
@@ -169,8 +172,7 @@ fn load<D: Disk>(alloc: Global, disk: &mut D) -> Result<(Library, Images), Undon
 fn load_library<D: Disk>(alloc: Global, disk: &mut D) -> Result<Library, Undone<BadStore>>
     ensures told { D.tells
         → Finds (λ l. library_of (D.state disk.old).files ≡ Ok l) (λ bad. library_of (D.state disk.old).files ≡ Err bad) result }
-    ensures rules { IfOk result IsLibrary }
-    ensures quiet { IfOk result IsQuiet }
+    ensures rules { IfOk result IsPlain }
     ensures reads { OnlyReads D.tells (D.state disk.old) (D.state disk.new) }
     ensures faults { IsCounted (has_failed result) (D.state disk.old).faults (D.state disk.new).faults }
 {
@@ -187,8 +189,7 @@ fn read_front<D: Disk>(alloc: Global, disk: &mut D, len: usize) -> Result<Librar
     requires long { D.tells → len ≡ min (length (bytes_of ((D.state disk.old).files library_name))) (LONGEST_LIBRARY + 1) }
     ensures told { D.tells
         → Finds (λ l. library_of (D.state disk.old).files ≡ Ok l) (λ bad. library_of (D.state disk.old).files ≡ Err bad) result }
-    ensures rules { IfOk result IsLibrary }
-    ensures quiet { IfOk result IsQuiet }
+    ensures rules { IfOk result IsPlain }
     ensures reads { OnlyReads D.tells (D.state disk.old) (D.state disk.new) }
     ensures faults { IsCounted (has_failed result) (D.state disk.old).faults (D.state disk.new).faults }
 {
@@ -207,8 +208,7 @@ fn read_into<D: Disk>(
     requires long { D.tells → length front.old ≡ min (length (bytes_of ((D.state disk.old).files library_name))) (LONGEST_LIBRARY + 1) }
     ensures told { D.tells
         → Finds (λ l. library_of (D.state disk.old).files ≡ Ok l) (λ bad. library_of (D.state disk.old).files ≡ Err bad) result }
-    ensures rules { IfOk result IsLibrary }
-    ensures quiet { IfOk result IsQuiet }
+    ensures rules { IfOk result IsPlain }
     ensures reads { OnlyReads D.tells (D.state disk.old) (D.state disk.new) }
     ensures faults { IsCounted (has_failed result) (D.state disk.old).faults (D.state disk.new).faults }
 {
@@ -219,9 +219,8 @@ fn read_into<D: Disk>(
 }
 
 fn decode_library(alloc: Global, bytes: &[u8]) -> Result<Library, Undone<BadStore>>
-    ensures told { Finds (λ l. read_library (library_in bytes.now) ≡ Ok l) (λ bad. read_library (library_in bytes.now) ≡ Err bad) result }
-    ensures rules { IfOk result IsLibrary }
-    ensures quiet { IfOk result IsQuiet }
+    ensures told { Finds (λ l. read_library (library_in built keeps_places bytes.now) ≡ Ok l) (λ bad. read_library (library_in built keeps_places bytes.now) ≡ Err bad) result }
+    ensures rules { IfOk result IsPlain }
     ensures no_fault { has_failed result ≡ false }
 {
     match decode(alloc, bytes) {
@@ -237,11 +236,11 @@ fn open_images<D: Disk>(
     disk: &mut D,
     library: &Library,
 ) -> Result<Images, Undone<BadStore>>
-    requires { IsLibrary library.now }
+    requires { IsPlain library.now }
     ensures told { D.tells → Finds
-        (λ images. (media_fault library.now (D.state disk.old).files [] library.now.media ≡ None)
+        (λ images. (media_fault (named library.now) (D.state disk.old).files [] library.now.media ≡ None)
         × (images ≡ map (image_in (D.state disk.old).files) library.now.media))
-        (λ bad. media_fault library.now (D.state disk.old).files [] library.now.media ≡ Some bad) result }
+        (λ bad. media_fault (named library.now) (D.state disk.old).files [] library.now.media ≡ Some bad) result }
     ensures names { IfOk result (λ images. map image_name images ≡ map medium_entry_name library.now.media) }
     ensures reads { OnlyReads D.tells (D.state disk.old) (D.state disk.new) }
     ensures faults { IsCounted (has_failed result) (D.state disk.old).faults (D.state disk.new).faults }
@@ -300,9 +299,9 @@ fn open_medium<D: Disk>(
 ) -> Result<Image, Undone<BadStore>>
     requires { IsStoreName medium.now.name }
     ensures told { D.tells → Finds
-        (λ image. (own_fault library.now (D.state disk.old).files medium.now ≡ None)
+        (λ image. (medium_fault (named library.now) (D.state disk.old).files medium.now ≡ None)
         × (image ≡ image_in (D.state disk.old).files medium.now))
-        (λ bad. own_fault library.now (D.state disk.old).files medium.now ≡ Some bad) result }
+        (λ bad. medium_fault (named library.now) (D.state disk.old).files medium.now ≡ Some bad) result }
     ensures name { IfOk result (λ image. image.name ≡ medium.now.name) }
     ensures reads { OnlyReads D.tells (D.state disk.old) (D.state disk.new) }
     ensures faults { IsCounted (has_failed result) (D.state disk.old).faults (D.state disk.new).faults }
@@ -317,8 +316,8 @@ fn open_medium<D: Disk>(
 // Accepts the image of a medium.
 fn accept(library: &Library, image: Image) -> Result<Image, Undone<BadStore>>
     ensures told { Finds
-        (λ accepted. (header_fault library.now image.name image.header ≡ None) × (accepted ≡ image))
-        (λ bad. header_fault library.now image.name image.header ≡ Some bad) result }
+        (λ accepted. (medium_header_fault (named library.now) image.name image.header ≡ None) × (accepted ≡ image))
+        (λ bad. medium_header_fault (named library.now) image.name image.header ≡ Some bad) result }
     ensures no_fault { has_failed result ≡ false }
 {
     let Image { name, header } = image;
@@ -333,8 +332,8 @@ fn accept(library: &Library, image: Image) -> Result<Image, Undone<BadStore>>
 
 // What is said of a store whose medium of this name was not opened.
 fn fault_of_file(alloc: Global, name: &[u8], fault: OpenFault) -> Undone<BadStore>
-    ensures bad { (l : Library) → (file : Option (List ℕ)) → OpensImage (Err fault) file
-        → OnBad (λ bad. file_fault l name.now file ≡ Some bad) result }
+    ensures bad { (header_fault : Header → Option BadStore) → (file : Option (List ℕ)) → OpensImage (Err fault) file
+        → OnBad (λ bad. file_fault name.now header_fault file ≡ Some bad) result }
     ensures cause { is_failed result ≡ is_failed_image fault }
 {
     match fault {

@@ -7,7 +7,7 @@ ghost use Rattle.vbm_ports.specs.Disk.{Passes, OnlyReads};
 ghost use Rattle.vbm_world.specs.World.{off};
 ghost use Rattle.vbm_world.specs.Loose.{Unsettled};
 ghost use Rattle.vbm_served.specs.Served.{IsServed};
-ghost use Rattle.vbm_registry.specs.Stands.{Stands};
+ghost use Rattle.vbm_standing.specs.Stands.{Stands};
 ghost use Rattle.vbm_store.specs.Kept.{AreKept};
 ghost use Rattle.vbm_store.specs.Serves.{IsSoundStore, FitsDisk as StoreFits, StandsLoosely};
 ghost use Rattle.vbm_store.specs.Undone.{has_failed};

@@ -1,8 +1,5 @@
 //! The library's file, and files that are none.
 
-ghost use Rattle.std.specs.Prelude.{IfOk};
-ghost use Rattle.vbm_registry.specs.Library.{IsLibrary, IsQuiet};
-
 use std::alloc::Global;
 use std::process::Abort;
 use std::test::Fail;
@@ -25,10 +22,7 @@ const FIVE: &[u8] =
 /// The largest numbers that a library can have drawn.
 const MOST: u64 = NUMBER_LIMIT;
 
-fn empty_library(alloc: Global) -> Library
-    ensures rules { IsLibrary result }
-    ensures quiet { IsQuiet result }
-{
+fn empty_library(alloc: Global) -> Library {
     Library {
         seed: Uuid::from_bytes(SEED),
         next: 0,

@@ -14,13 +14,19 @@ use Rattle.vbm_intent.specs.Changes.{of_file, file_after, changed, FitsFile, Fit
 use Rattle.vbm_intent.specs.Plan.{body_size}
 use Rattle.vbm_registry.specs.declared.media.Medium.{Medium}
 use Rattle.vbm_registry.specs.declared.library.Library.{Library}
-use Rattle.vbm_registry.specs.Library.{library_name, medium_entry_name, without_entry, IsLibrary, IsQuiet}
-use Rattle.vbm_registry.specs.Stands.{none_changed, medium_in, shelf_of, shelved_file, world_with, library_file, read_library, IsOwn}
-use Rattle.vbm_registry.proofs.Again.{read_again}
-use Rattle.vbm_registry.proofs.Stores.{SameBesides, same_others, header_frame, store_without, library_without}
-use Rattle.vbm_registry.proofs.Worlds.{medium_of_with, off_shelf, own_shelved, with_shelved_none, world_without}
+use Rattle.vbm_registry.specs.Library.{library_name, medium_entry_name, without_entry}
+use Rattle.vbm_standing.specs.Headers.{shelved_file}
+use Rattle.vbm_standing.specs.Meaning.{none_changed, none_runs, medium_in, shelf_in, world_of, world_with}
+use Rattle.vbm_standing.specs.Faults.{IsMediumFile}
+use Rattle.vbm_standing.specs.Stands.{library_file, read_library}
+use Rattle.vbm_registry.specs.Named.{named as library_named}
+use Rattle.vbm_registry.proofs.PlainFiles.{plain_again}
+use Rattle.vbm_standing.proofs.WorldParts.{medium_of-world}
+use Rattle.vbm_standing.proofs.HeaderFacts.{header_frame}
+use Rattle.vbm_standing.proofs.Stores.{SameBesides, same_others, store_without, library_without}
+use Rattle.vbm_standing.proofs.Worlds.{no_machines, off_shelf, own_shelved, with_shelved_none, world_without}
 use Rattle.vbm_named.specs.Names.{Name, find_by, has_name, without}
-use Rattle.vbm_world.specs.World.{World, medium_name, with_shelved}
+use Rattle.vbm_world.specs.World.{World, medium_name, is_in_use, with_shelved}
 use Rattle.vbm_world.specs.Outcomes.{Outcome}
 use Rattle.vbm_world.specs.Media.{shelved}
 use Rattle.vbm_world.specs.Step.{step_of}
@@ -79,7 +85,7 @@ pub closes_none : (e : Store) (files : Files) (name : Name) (delete : Bool) → 
     → Answers files e (CloseMedium name delete) (Refused NoSuchMedium)
 closes_none e files name delete none =
     let by : (Refused NoSuchMedium, serves e files) ≡ step_of (serves e files) (CloseMedium name delete) 0 =
-    rw (medium_of_with none_changed e.library files name, none) refl in
+    rw (medium_of-world none_changed none_runs (library_named e.library) files name, none) refl in
     (by, λ u. ap (λ (o : Outcome). cond (is_refused o.0) u all_settled) (sym by))
 
 pub images_less : (e : Store) (name : Name) → IsSoundStore e
@@ -88,10 +94,6 @@ images_less e name sound =
     without_map image_name image_name (λ n. n) (λ x. refl) name e.images
     ∙ ap (without (λ n. n) name) sound.images
     ∙ sym (without_map medium_entry_name medium_entry_name (λ n. n) (λ x. refl) name e.library.media)
-
--- without a medium a library is as quiet
-pub quiet_less : (l : Library) (name : Name) → IsQuiet l → IsQuiet (without_entry l name)
-quiet_less l name quiet = record { making = quiet.making; merging = quiet.merging }
 
 module _ (e : Store) (files : Files) (name : Name) (delete : Bool) (holds : Holds e.library e.images files) (sound : IsSoundStore e)
     (named : IsTrue (is_medium_name name)) where
@@ -123,36 +125,37 @@ module _ (e : Store) (files : Files) (name : Name) (delete : Bool) (holds : Hold
       let same = same_others e.library name files now sound.library now_others in
       record {
         read = ap library_file (library_made (removal name delete) now_library files apart)
-            ∙ ap read_library (read_again now_library (library_without e.library name sound.library) (quiet_less e.library name sound.quiet));
-        store = store_without e.library files now name holds.store same;
+            ∙ ap read_library (plain_again now_library (library_without e.library name sound.library));
+        store = store_without e.library files now name sound.library.inners holds.store same;
         headers = ap (without image_name name) holds.headers
             ∙ sym (without_map (image_in files) medium_entry_name image_name (λ m. refl) name e.library.media)
             ∙ sym (images_same files now now_library.media (All-map _ _ (λ m is. header_frame files now m.name is) now_library.media same));
       }
 
   module _ (m : Medium) (is : find_by medium_entry_name name e.library.media ≡ Some m) where
-    now_shelf : with_shelved (shelf_of e.library files) name (option_map shelved_file (now name))
-        ≡ cond delete (shelf_of e.library files)
-        (with_shelved (shelf_of e.library files) name (shelved (medium_in none_changed files m) (medium_in none_changed files m).flat))
+    now_shelf : with_shelved (shelf_in (library_named e.library) files) name (option_map shelved_file (now name))
+        ≡ cond delete (shelf_in (library_named e.library) files)
+        (with_shelved (shelf_in (library_named e.library) files) name (shelved (medium_in none_changed (library_named e.library) files m) (medium_in none_changed (library_named e.library) files m).flat))
     now_shelf =
-        let shelf = shelf_of e.library files in
+        let shelf = shelf_in (library_named e.library) files in
         let same : m.name ≡ name = (bytes_eq-Decides m.name name).0 (find_named medium_entry_name name m e.library.media is) in
-        let own = All-find medium_entry_name (IsOwn e.library files) name m e.library.media holds.store.own is in
+        let own = All-find medium_entry_name (IsMediumFile (library_named e.library) files) name m e.library.media holds.store.media is in
         let has : has_name medium_entry_name name e.library.media ≡ true = has_found medium_entry_name name e.library.media ∙ ap is_some is in
         ap (λ o. with_shelved shelf name (option_map shelved_file o)) now_here
         ∙ elim delete as (λ d. with_shelved shelf name (option_map shelved_file (cond d None (files name)))
-        ≡ cond d shelf (with_shelved shelf name (shelved (medium_in none_changed files m) (medium_in none_changed files m).flat))) [
-          | true ↦ with_shelved_none shelf name (off_shelf e.library files name has)
+        ≡ cond d shelf (with_shelved shelf name (shelved (medium_in none_changed (library_named e.library) files m) (medium_in none_changed (library_named e.library) files m).flat))) [
+          | true ↦ with_shelved_none shelf name (off_shelf (library_named e.library) files name has)
           | false ↦ ap (with_shelved shelf name) (ap (λ n. option_map shelved_file (files n)) (sym same)
-              ∙ sym (own_shelved none_changed e.library files m own))
+              ∙ sym (own_shelved none_changed e.library files m sound.library own))
         ]
 
-    now_by : (Done, world_with none_changed now_library now) ≡ step_of (serves e files) (CloseMedium name delete) 0
-    unfolding world_with
+    now_by : (Done, world_with none_changed none_runs now_library now) ≡ step_of (serves e files) (CloseMedium name delete) 0
+    unfolding world_of
     now_by =
-        let w = world_with none_changed e.library files in
-        rw (medium_of_with none_changed e.library files name, is) (ap (λ (v : World). (Done, v))
-        (world_without none_changed e.library files now name sound.library sound.quiet now_others named
+        let w = world_with none_changed none_runs e.library files in
+        let free : is_in_use w.machines name ≡ false = ap (λ ms. is_in_use ms name) (no_machines none_changed e.library files sound.library) in
+        rw (medium_of-world none_changed none_runs (library_named e.library) files name, is, free) (ap (λ (v : World). (Done, v))
+        (world_without none_changed e.library files now name sound.library now_others named
         ∙ ap (λ s. record w { media = without medium_name name w.media; shelf = s }) now_shelf))
 
     closes_some : (log : Log) → Manages files e (CloseMedium name delete) plan
@@ -161,7 +164,6 @@ module _ (e : Store) (files : Files) (name : Name) (delete : Bool) (holds : Hold
         (record { library = now_library; images = without image_name name e.images; log = log }) Done
         (record {
           library = library_without e.library name sound.library;
-          quiet = quiet_less e.library name sound.quiet;
           images = images_less e name sound;
         })
         (library_fits (removal name delete) now_library files apart (removal_fits name delete named files)) now_holds now_by

@@ -33,11 +33,16 @@ use Rattle.vbm_world.specs.Step.{step_of}
 use Rattle.vbm_named.proofs.Lists.{name_sym, put_map}
 use Rattle.vbm_registry.specs.declared.media.Medium.{Medium}
 use Rattle.vbm_registry.specs.declared.library.Library.{Library}
-use Rattle.vbm_registry.specs.Library.{library_name, medium_entry_name, IsLibrary, IsQuiet}
-use Rattle.vbm_registry.specs.Stands.{shelved_file, header_in, medium_in, shelf_of, world_with, none_changed, read_library, library_file, library_of, id_in, IsStore}
-use Rattle.vbm_registry.proofs.Again.{read_again}
-use Rattle.vbm_registry.proofs.Stores.{SameFiles, SameBesides, same_media, header_frame, own_of_file, header_of_file, store_put, library_put}
-use Rattle.vbm_registry.proofs.Worlds.{is_medium_with, drawn_foreign, drawn_known, foreign_new, on_shelf, medium_of_file, with_shelved_none, world_put}
+use Rattle.vbm_registry.specs.Library.{library_name, medium_entry_name, IsPlain}
+use Rattle.vbm_standing.specs.Headers.{shelved_file, header_in}
+use Rattle.vbm_standing.specs.Meaning.{none_changed, none_runs, medium_in, shelf_in, world_of, world_with}
+use Rattle.vbm_standing.specs.Faults.{id_in, IsStore}
+use Rattle.vbm_standing.specs.Stands.{read_library, library_file, library_of}
+use Rattle.vbm_registry.specs.Named.{named as library_named}
+use Rattle.vbm_registry.proofs.PlainFiles.{plain_again}
+use Rattle.vbm_standing.proofs.HeaderFacts.{header_frame, header_of_file}
+use Rattle.vbm_standing.proofs.Stores.{SameFiles, SameBesides, same_media, own_of_file, store_put, library_put}
+use Rattle.vbm_standing.proofs.Worlds.{is_medium_with, drawn_foreign, drawn_known, foreign_new, on_shelf, medium_of_file, with_shelved_none, world_put}
 use Rattle.vbm_store.specs.declared.store.Store.{Store}
 use Rattle.vbm_store.specs.declared.images.Edit.{Edit}
 use Rattle.vbm_store.specs.Edits.{edited}
@@ -86,25 +91,22 @@ same_unless : (a b c d e f : Bool) → (a ≡ false → b ≡ c) → first_check
 same_unless true b c d e f same = refl
 same_unless false b c d e f same = ap (λ x. first_check false x d e f) (same refl)
 
-pub refusal_is : (l : Library) (files : Files) (name : Name) (capacity : ℕ) → IsQuiet l → IsTrue (is_medium_name name)
+pub refusal_is : (l : Library) (files : Files) (name : Name) (capacity : ℕ) → IsPlain l → IsTrue (is_medium_name name)
     → first_check (has_name medium_entry_name name l.media) (is_some (files name)) (is_bad_size capacity) (nat_le MEDIA_LIMIT (length l.media)) (nat_le NUMBER_LIMIT l.next)
-    ≡ first_refusal (create_checks (world_with none_changed l files) name capacity)
-unfolding world_with
-refusal_is l files name capacity quiet named =
-    let shelf : has_name medium_entry_name name l.media ≡ false → is_some (files name) ≡ is_some (shelf_of l files name) =
-    λ none. sym (ap is_some (on_shelf l files name named none quiet.making) ∙ some_map shelved_file (files name)) in
-    rw (is_medium_with none_changed l files name, length-map l.media (medium_in none_changed files))
+    ≡ first_refusal (create_checks (world_with none_changed none_runs l files) name capacity)
+unfolding world_of
+refusal_is l files name capacity plain named =
+    let shelf : has_name medium_entry_name name l.media ≡ false → is_some (files name) ≡ is_some (shelf_in (library_named l) files name) =
+    λ none. sym (ap is_some (on_shelf (library_named l) files name named none plain.making) ∙ some_map shelved_file (files name)) in
+    rw (is_medium_with none_changed none_runs (library_named l) files name, length-map l.media (medium_in none_changed (library_named l) files))
     (same_unless (has_name medium_entry_name name l.media) _ _ _ _ _ shelf)
 
 -- ---- the library and the images
 
-pub made_is_library : (l : Library) (name : Name) (capacity : ℕ) → IsLibrary l → IsTrue (is_medium_name name) → CanCreate l name capacity
-    → IsLibrary (made_library l name)
+pub made_is_library : (l : Library) (name : Name) (capacity : ℕ) → IsPlain l → IsTrue (is_medium_name name) → CanCreate l name capacity
+    → IsPlain (made_library l name)
 made_is_library l name capacity is named can =
     library_put l (new_entry name) (l.next + 1) is (record { name = named; mode = refl }) can.new can.room (omega (arith, can.next))
-
-pub made_is_quiet : (l : Library) (name : Name) → IsQuiet l → IsQuiet (made_library l name)
-made_is_quiet l name quiet = record { making = quiet.making; merging = quiet.merging }
 
 pub made_images : (e : Store) (name : Name) (h : Header) → IsSoundStore e
     → map image_name (put_by image_name (record { name = name; header = h }) e.images) ≡ map medium_entry_name (made_library e.library name).media
@@ -145,9 +147,12 @@ module _ (files : Files) (e : Store) (name : Name) (size : Size) (h : Header) (s
   alone : of_file library_name (image_changes name h) ≡ []
   alone = image_alone name library_name h (name_sym name library_name ∙ medium_not_library name named)
 
+  made_is_plain : IsPlain made
+  made_is_plain = made_is_library l name (capacity_of size) sound.library named can
+
   library_now : library_of now ≡ Ok made
   library_now = ap library_file (library_made (image_changes name h) made files alone)
-      ∙ ap read_library (read_again made (made_is_library l name (capacity_of size) sound.library named can) (made_is_quiet l name sound.quiet))
+      ∙ ap read_library (plain_again made made_is_plain)
 
   file_now : now name ≡ Some (made_image h)
   file_now = library_frame (image_changes name h) made files name (medium_not_library name named) ∙ image_made h medium.new name files medium.dynamic absent
@@ -173,9 +178,9 @@ module _ (files : Files) (e : Store) (name : Name) (size : Size) (h : Header) (s
   same_files : SameFiles files now l.media
   same_files = same_media l name files now sound.library besides can.new
 
-  store_now : IsStore made now
-  store_now = store_put l files now (new_entry name) (l.next + 1) holds.store (omega arith) same_files
-      (own_of_file (record l { next = l.next + 1 }) now (new_entry name) (made_image h) h file_now accepted_now
+  store_now : IsStore (library_named made) now
+  store_now = store_put l files now (new_entry name) (l.next + 1) sound.library.inners holds.store (omega arith) same_files
+      (own_of_file (library_named (record l { next = l.next + 1 })) now (new_entry name) (made_image h) h file_now accepted_now
       (ap is_differencing medium.dynamic) new_known)
       (foreign_new l files (id_in now (new_entry name)) holds.store new_foreign)
 
@@ -189,26 +194,27 @@ module _ (files : Files) (e : Store) (name : Name) (size : Size) (h : Header) (s
       ∙ ap (λ x. put_by image_name (record { name = name; header = x }) (map (image_in now) l.media)) (sym header_now)
       ∙ sym (put_map (image_in now) medium_entry_name image_name (λ m. refl) (new_entry name) l.media)
 
-  medium_now : medium_in none_changed now (new_entry name) ≡ made_medium (world_with none_changed l files) name (capacity_of size) Standard
-  unfolding world_with zero_disk
+  medium_now : medium_in none_changed (library_named made) now (new_entry name)
+      ≡ made_medium (world_with none_changed none_runs l files) name (capacity_of size) Standard
+  unfolding world_of zero_disk
   medium_now =
-      medium_of_file none_changed now (new_entry name) (made_image h) h file_now accepted_now
+      medium_of_file none_changed made now (new_entry name) (made_image h) h made_is_plain file_now accepted_now
       ∙ rw (made_flat h medium.new, medium.dynamic, medium.id, medium.modify, medium.capacity_is) refl
 
-  no_shelf : (world_with none_changed l files).shelf name ≡ None
-  unfolding world_with
-  no_shelf = on_shelf l files name named can.new sound.quiet.making ∙ ap (option_map shelved_file) absent
+  no_shelf : (world_with none_changed none_runs l files).shelf name ≡ None
+  unfolding world_of
+  no_shelf = on_shelf (library_named l) files name named can.new sound.library.making ∙ ap (option_map shelved_file) absent
 
-  world_now : world_with none_changed made now ≡ (let w = world_with none_changed l files in
+  world_now : world_with none_changed none_runs made now ≡ (let w = world_with none_changed none_runs l files in
       record w { next = l.next + 1; media = put_by medium_name (made_medium w name (capacity_of size) Standard) w.media })
   world_now =
-      let w = world_with none_changed l files in
+      let w = world_with none_changed none_runs l files in
       world_put none_changed l files now (new_entry name) (l.next + 1) sound.library besides can.new
       ∙ (λ i. record w { next = l.next + 1; media = put_by medium_name (medium_now i) w.media; shelf = with_shelved_none w.shelf name no_shelf i })
 
   step_now : first_refusal (create_checks (serves e files) name (capacity_of size)) ≡ None
-      → (Id h.id, world_with none_changed made now) ≡ step_of (serves e files) (CreateMedium name size Standard) 0
-  unfolding world_with
+      → (Id h.id, world_with none_changed none_runs made now) ≡ step_of (serves e files) (CreateMedium name size Standard) 0
+  unfolding world_of
   step_now none =
       (λ i. (Id (medium.id i), world_now i))
       ∙ ap (λ o. refused_or (serves e files) o (create_outcome (serves e files) name (capacity_of size))) (sym none)
@@ -219,8 +225,7 @@ module _ (files : Files) (e : Store) (name : Name) (size : Size) (h : Header) (s
   created none log = manages files e (CreateMedium name size Standard) plan
       (record { library = made; images = put_by image_name (record { name = name; header = h }) e.images; log = log }) (Id h.id)
       (record {
-        library = made_is_library l name (capacity_of size) sound.library named can;
-        quiet = made_is_quiet l name sound.quiet;
+        library = made_is_plain;
         images = made_images e name h sound;
       })
       (library_fits (image_changes name h) made files alone (image_fits h medium.new name files absent))
@@ -251,4 +256,4 @@ pub turned_sound : (e : Store) (name : Name) (capacity : ℕ) (turn : Turn) → 
     → Creates e name capacity turn → IsSoundTurn e turn
 turned_sound e name capacity turn sound named can creates =
     rw (creates.made, creates.placed)
-    (made_is_library e.library name capacity sound.library named can, made_is_quiet e.library name sound.quiet, made_images e name creates.header sound)
+    (made_is_library e.library name capacity sound.library named can, made_images e name creates.header sound)

@@ -16,11 +16,16 @@ use Rattle.vbm_intent.specs.declared.log.Log.{Log}
 use Rattle.vbm_intent.specs.Changes.{changed}
 use Rattle.vbm_registry.specs.declared.media.Medium.{Medium}
 use Rattle.vbm_registry.specs.declared.library.Library.{Library}
-use Rattle.vbm_registry.specs.Library.{library_name, medium_entry_name, with_entry, IsLibrary, IsQuiet}
-use Rattle.vbm_registry.specs.Stands.{none_changed, header_in, medium_in, id_in, shelved_file, shelved_image, world_with, library_file, read_library}
-use Rattle.vbm_registry.proofs.Again.{read_again}
-use Rattle.vbm_registry.proofs.Stores.{SameBesides, SameFiles, same_media, header_frame, header_of_file, own_of_file, store_put, library_put}
-use Rattle.vbm_registry.proofs.Worlds.{is_medium_with, has_id_with, on_shelf, shelved_of_file, medium_of_file, world_put}
+use Rattle.vbm_registry.specs.Library.{library_name, medium_entry_name, with_entry, IsPlain}
+use Rattle.vbm_standing.specs.Headers.{header_in, shelved_file, shelved_image}
+use Rattle.vbm_standing.specs.Meaning.{none_changed, none_runs, medium_in, world_of, world_with}
+use Rattle.vbm_standing.specs.Faults.{id_in}
+use Rattle.vbm_standing.specs.Stands.{library_file, read_library}
+use Rattle.vbm_registry.specs.Named.{named as library_named}
+use Rattle.vbm_registry.proofs.PlainFiles.{plain_again}
+use Rattle.vbm_standing.proofs.HeaderFacts.{header_frame, header_of_file}
+use Rattle.vbm_standing.proofs.Stores.{SameBesides, SameFiles, same_media, own_of_file, store_put, library_put}
+use Rattle.vbm_standing.proofs.Worlds.{is_medium_with, has_id_with, on_shelf, shelved_of_file, medium_of_file, world_put}
 use Rattle.vbm_named.specs.Names.{Name, find_by, has_name, put_by}
 use Rattle.vbm_world.specs.World.{World, medium_id, medium_name, with_shelved}
 use Rattle.vbm_ids.specs.Identifier.{is_foreign, has_id}
@@ -91,7 +96,7 @@ refuses e files name refusal by = (by, λ u. ap (λ (o : Outcome). cond (is_refu
 pub opens_taken : (e : Store) (files : Files) (name : Name) (m : Medium) → find_by medium_entry_name name e.library.media ≡ Some m
     → Answers files e (OpenMedium name) (Refused NameTaken)
 opens_taken e files name m is = refuses e files name NameTaken
-    (rw (is_medium_with none_changed e.library files name ∙ has_found medium_entry_name name e.library.media ∙ ap is_some is) refl)
+    (rw (is_medium_with none_changed none_runs (library_named e.library) files name ∙ has_found medium_entry_name name e.library.media ∙ ap is_some is) refl)
 
 pub images_more : (e : Store) (image : Image) → IsSoundStore e
     → map image_name (put_by image_name image e.images) ≡ map medium_entry_name (put_by medium_entry_name (new_entry image.name) e.library.media)
@@ -100,22 +105,18 @@ images_more e image sound =
     ∙ ap (put_by (λ n. n) image.name) sound.images
     ∙ sym (put_map medium_entry_name medium_entry_name (λ n. n) (λ x. refl) (new_entry image.name) e.library.media)
 
-pub library_more : (e : Store) (h : Header) (name : Name) → first_refusal (image_checks e.library e.images h) ≡ None → IsLibrary e.library
-    → IsTrue (is_medium_name name) → has_name medium_entry_name name e.library.media ≡ false → IsLibrary (with_entry e.library (new_entry name))
+pub library_more : (e : Store) (h : Header) (name : Name) → first_refusal (image_checks e.library e.images h) ≡ None → IsPlain e.library
+    → IsTrue (is_medium_name name) → has_name medium_entry_name name e.library.media ≡ false → IsPlain (with_entry e.library (new_entry name))
 library_more e h name allowed lib named free =
     library_put e.library (new_entry name) e.library.next lib (record { name = named; mode = refl }) free
     (welcome e.library e.images h allowed).room lib.next
-
--- with one medium more it is as quiet
-pub quiet_more : (e : Store) (name : Name) → IsQuiet e.library → IsQuiet (with_entry e.library (new_entry name))
-quiet_more e name quiet = record { making = quiet.making; merging = quiet.merging }
 
 module _ (e : Store) (files : Files) (name : Name) (holds : Holds e.library e.images files) (sound : IsSoundStore e)
     (named : IsTrue (is_medium_name name)) (free : has_name medium_entry_name name e.library.media ≡ false) where
   opens : step_of (serves e files) (OpenMedium name) 0 ≡ (let shelved = option_map shelved_file (files name) in
       refused_or (serves e files) (first_refusal (file_checks (serves e files) shelved)) (opened (serves e files) name shelved))
-  unfolding world_with
-  opens = rw (is_medium_with none_changed e.library files name ∙ free, on_shelf e.library files name named free sound.quiet.making) refl
+  unfolding world_of
+  opens = rw (is_medium_with none_changed none_runs (library_named e.library) files name ∙ free, on_shelf (library_named e.library) files name named free sound.library.making) refl
 
   pub opens_missing : files name ≡ None → Answers files e (OpenMedium name) (Refused NoSuchFile)
   opens_missing none = refuses e files name NoSuchFile (sym (opens ∙ rw none refl))
@@ -135,13 +136,13 @@ module _ (e : Store) (files : Files) (name : Name) (holds : Holds e.library e.im
 
   has_id_here : (id : List ℕ) → has_id medium_id id (serves e files).media ≡ has_id image_id id e.images
   has_id_here id =
-      has_id_with none_changed e.library files id
+      has_id_with none_changed none_runs (library_named e.library) files id
       ∙ sym (ap (has_id image_id id) holds.headers
       ∙ any_map (image_in files) (λ (i : Image). bytes_eq i.header.id id) e.library.media)
 
   full_here : is_full (serves e files) ≡ nat_le MEDIA_LIMIT (length e.library.media)
-  unfolding world_with
-  full_here = ap (nat_le MEDIA_LIMIT) (length-map e.library.media (medium_in none_changed files))
+  unfolding world_of
+  full_here = ap (nat_le MEDIA_LIMIT) (length-map e.library.media (medium_in none_changed (library_named e.library) files))
 
   module _ (h : Header) (read : IsRead (files name) (Ok h)) where
     f : IsFile files name (Ok h)
@@ -149,7 +150,7 @@ module _ (e : Store) (files : Files) (name : Name) (holds : Holds e.library e.im
 
     checks : (d : Bool) → is_differencing h.image_type ≡ d
         → first_refusal (file_checks (serves e files) (Some (shelved_image f.file (Ok h)))) ≡ first_refusal (image_checks e.library e.images h)
-    unfolding world_with
+    unfolding world_of
     checks true is = rw (is, has_id_here h.id, full_here) refl
     checks false is = rw (is, has_id_here h.id, full_here) refl
 
@@ -168,6 +169,9 @@ module _ (e : Store) (files : Files) (name : Name) (holds : Holds e.library e.im
 
       abbrev more : Library
       more = with_entry e.library (new_entry name)
+
+      is_plain : IsPlain more
+      is_plain = library_more e h name allowed sound.library named free
 
       abbrev now : Files
       now = changed (library_changes more) files
@@ -189,31 +193,30 @@ module _ (e : Store) (files : Files) (name : Name) (holds : Holds e.library e.im
 
       more_holds : Holds more (put_by image_name (record { name = name; header = h }) e.images) now
       more_holds = record {
-        read = ap library_file (library_made [] more files refl) ∙ ap read_library (read_again more (library_more e h name allowed sound.library named free) (quiet_more e name sound.quiet));
-        store = store_put e.library files now (new_entry name) e.library.next holds.store (omega arith) same
-            (own_of_file e.library now (new_entry name) f.file h here f.is is_welcome.whole is_welcome.known)
-            (rw (id_in, header) (sym (has_id_with none_changed e.library files h.id) ∙ has_id_here h.id ∙ is_welcome.new));
+        read = ap library_file (library_made [] more files refl) ∙ ap read_library (plain_again more is_plain);
+        store = store_put e.library files now (new_entry name) e.library.next sound.library.inners holds.store (omega arith) same
+            (own_of_file (library_named e.library) now (new_entry name) f.file h here f.is is_welcome.whole is_welcome.known)
+            (rw (id_in, header) (sym (has_id_with none_changed none_runs (library_named e.library) files h.id) ∙ has_id_here h.id ∙ is_welcome.new));
         headers = rw (sym header) (ap (put_by image_name (image_in now (new_entry name))) (holds.headers
             ∙ sym (images_same files now e.library.media (All-map _ _ (λ m is. header_frame files now m.name is) e.library.media same)))
             ∙ sym (put_map (image_in now) medium_entry_name image_name (λ m. refl) (new_entry name) e.library.media));
       }
 
-      more_by : (Id h.id, world_with none_changed more now) ≡ step_of (serves e files) (OpenMedium name) 0
-      unfolding world_with
+      more_by : (Id h.id, world_with none_changed none_runs more now) ≡ step_of (serves e files) (OpenMedium name) 0
+      unfolding world_of
       more_by =
-          let w = world_with none_changed e.library files in
+          let w = world_with none_changed none_runs e.library files in
           rw (opens_image, allowed, is_welcome.whole) (ap (λ (v : World). (Id h.id, v))
           (world_put none_changed e.library files now (new_entry name) e.library.next sound.library others free
           ∙ ap (λ m. record w { media = put_by medium_name m w.media; shelf = with_shelved w.shelf name None })
-          (medium_of_file none_changed now (new_entry name) f.file h here f.is)))
+          (medium_of_file none_changed more now (new_entry name) f.file h is_plain here f.is)))
 
       opens_more : (log : Log) → Manages files e (OpenMedium name) (library_changes more)
           (record { library = more; images = put_by image_name (record { name = name; header = h }) e.images; log = log }) (Id h.id)
       opens_more log = manages files e (OpenMedium name) (library_changes more)
           (record { library = more; images = put_by image_name (record { name = name; header = h }) e.images; log = log }) (Id h.id)
           (record {
-            library = library_more e h name allowed sound.library named free;
-            quiet = quiet_more e name sound.quiet;
+            library = is_plain;
             images = images_more e (record { name = name; header = h }) sound;
           })
           (library_fits [] more files refl (λ n. tt)) more_holds more_by

@@ -3,7 +3,7 @@
 ghost use Rattle.std.specs.Prelude.{◌≡◌, false, map, IfOk, IfErr};
 ghost use Rattle.vbm_ports.specs.Files.{Files};
 ghost use Rattle.vbm_registry.specs.Library.{medium_entry_name};
-ghost use Rattle.vbm_registry.specs.Stands.{variant_of as variant_by_type};
+ghost use Rattle.vbm_standing.specs.Headers.{variant_of as variant_by_type};
 ghost use Rattle.vbm_world.specs.declared.command.Command.TheVariants.{ShowMediumInfo, ListHdds};
 ghost use Rattle.vbm_world.specs.declared.command.Answer.TheVariants as answers;
 ghost use Rattle.vbm_store.specs.Serves.{Holds};

@@ -3,7 +3,7 @@
 ghost use Rattle.std.specs.Prelude.{◌≡◌, ◌++◌, Bool, IfOk, IfErr, OnOk, IsTrue, false};
 ghost use Rattle.vbm_ports.specs.Files.{Files};
 ghost use Rattle.vbm_ports.specs.Names.{is_medium_name};
-ghost use Rattle.vbm_registry.specs.Library.{medium_entry_name, without_entry, IsLibrary, IsQuiet};
+ghost use Rattle.vbm_registry.specs.Library.{medium_entry_name, without_entry, IsPlain};
 ghost use Rattle.vbm_named.specs.Names.{has_name};
 ghost use Rattle.vbm_world.specs.declared.command.Command.TheVariants.{CloseMedium};
 ghost use Rattle.vbm_media.specs.Closes.{removal};
@@ -38,8 +38,7 @@ fn plan_closing(
     name: &[u8],
     delete: bool,
 ) -> Result<Plan, NoMemory>
-    requires library { IsLibrary library.now }
-    requires quiet { IsQuiet library.now }
+    requires library { IsPlain library.now }
     requires name { IsTrue (is_medium_name name.now) }
     ensures { IfOk result (λ plan. plan.changes ≡ removal name.now delete ++ library_changes library.now) }
 {
@@ -55,8 +54,7 @@ fn close_entry(
     name: &[u8],
     delete: bool,
 ) -> Result<(Library, Text, Plan), NoMemory>
-    requires library { IsLibrary store.now.library }
-    requires quiet { IsQuiet store.now.library }
+    requires library { IsPlain store.now.library }
     requires name { IsTrue (is_medium_name name.now) }
     ensures library { IfOk result (λ x. x.0 ≡ without_entry store.now.library name.now) }
     ensures name { IfOk result (λ x. x.1 ≡ name.now) }

@@ -13,8 +13,8 @@ ghost use Rattle.vbm_world.specs.declared.command.Command.TheVariants as command
 ghost use Rattle.vbm_named.specs.Names.{has_name};
 ghost use Rattle.vbm_world.specs.Refusals.{capacity_of, is_bad_size, first_refusal};
 ghost use Rattle.vbm_world.specs.Media.{create_checks};
-ghost use Rattle.vbm_registry.specs.Library.{medium_entry_name, IsLibrary, IsQuiet};
-ghost use Rattle.vbm_registry.specs.Stands.{world_with, none_changed};
+ghost use Rattle.vbm_registry.specs.Library.{medium_entry_name, IsPlain};
+ghost use Rattle.vbm_standing.specs.Meaning.{world_with, none_runs, none_changed};
 ghost use Rattle.vbm_store.specs.Plans.{library_changes, image_changes};
 ghost use Rattle.vbm_store.specs.Undone.{has_failed};
 ghost use Rattle.vbm_store.specs.Serves.{IsSoundStore, Holds};
@@ -67,11 +67,10 @@ fn create_refusal<D: Disk>(
     name: &[u8],
     size: Size,
 ) -> Result<Option<Refusal>, Failed>
-    requires library { IsLibrary library.now }
-    requires quiet { IsQuiet library.now }
+    requires library { IsPlain library.now }
     requires name { IsTrue (is_medium_name name.now) }
     ensures answer { D.tells → IfOk result (λ r. r
-        ≡ first_refusal (create_checks (world_with none_changed library.now (D.state disk.old).files) name.now (capacity_of size))) }
+        ≡ first_refusal (create_checks (world_with none_changed none_runs library.now (D.state disk.old).files) name.now (capacity_of size))) }
     ensures can { IfOk result (λ r. r ≡ None → CanCreate library.now name.now (capacity_of size)) }
     ensures absent { D.tells → IfOk result (λ r. r ≡ None → (D.state disk.old).files name.now ≡ None) }
     ensures reads { OnlyReads D.tells (D.state disk.old) (D.state disk.new) }
@@ -126,7 +125,7 @@ fn header_of(library: &Library, capacity: u64, variant: Variant) -> Header
 
 // A copy of the library with a new medium, for which an identifier was drawn.
 fn with_new(alloc: Global, library: &Library, name: &[u8]) -> Result<Library, NoMemory>
-    requires library { IsLibrary library.now }
+    requires library { IsPlain library.now }
     requires new { IsFalse (has_name medium_entry_name name.now (library.now).media) }
     requires next { (library.now).next < NUMBER_LIMIT }
     ensures { IfOk result (λ l. l ≡ library_made library.now name.now) }
@@ -144,8 +143,7 @@ fn with_new(alloc: Global, library: &Library, name: &[u8]) -> Result<Library, No
 fn plan_of(alloc: Global, name: &[u8], header: &Header, library: &Library) -> Result<Plan, NoMemory>
     requires name { IsTrue (is_medium_name name.now) }
     requires header { IsNewHeader header.now }
-    requires library { IsLibrary library.now }
-    requires quiet { IsQuiet library.now }
+    requires library { IsPlain library.now }
     ensures { IfOk result (λ plan. plan.changes ≡ image_changes name.now header.now ++ library_changes library.now) }
 {
     let mut plan = Plan::new(alloc);

@@ -5,7 +5,7 @@ ghost use Rattle.vbm_ports.specs.Counts.{IsCounted};
 ghost use Rattle.vbm_ports.specs.Disk.{OnlyReads};
 ghost use Rattle.vbm_ports.specs.Files.{Files};
 ghost use Rattle.vbm_ports.specs.Names.{is_medium_name};
-ghost use Rattle.vbm_registry.specs.Library.{medium_entry_name, with_entry, IsLibrary, IsQuiet};
+ghost use Rattle.vbm_registry.specs.Library.{medium_entry_name, with_entry, IsPlain};
 ghost use Rattle.vbm_named.specs.Names.{has_name};
 ghost use Rattle.vbm_world.specs.Refusals.{first_refusal};
 ghost use Rattle.vbm_world.specs.declared.command.Command.TheVariants.{OpenMedium};
@@ -48,7 +48,7 @@ fn image_refusal(store: &Store, header: &Header) -> Option<Refusal>
 }
 
 fn library_with(alloc: Global, library: &Library, name: &[u8]) -> Result<Library, NoMemory>
-    requires sound { IsLibrary library.now }
+    requires sound { IsPlain library.now }
     requires free { IsFalse (has_name medium_entry_name name.now library.now.media) }
     ensures { IfOk result (λ l. l ≡ with_entry library.now (new_entry name.now)) }
 {
@@ -63,8 +63,7 @@ fn library_with(alloc: Global, library: &Library, name: &[u8]) -> Result<Library
 }
 
 fn library_plan(alloc: Global, library: &Library) -> Result<Plan, NoMemory>
-    requires library { IsLibrary library.now }
-    requires quiet { IsQuiet library.now }
+    requires library { IsPlain library.now }
     ensures { IfOk result (λ plan. plan.changes ≡ library_changes library.now) }
 {
     let mut plan = Plan::new(alloc);
@@ -74,10 +73,9 @@ fn library_plan(alloc: Global, library: &Library) -> Result<Plan, NoMemory>
 
 // The library with the image's medium, and the plan.
 fn add_entry(alloc: Global, store: &Store, image: &Image) -> Result<(Library, Plan), NoMemory>
-    requires sound { IsLibrary store.now.library }
-    requires quiet { IsQuiet store.now.library }
+    requires sound { IsPlain store.now.library }
     requires free { IsFalse (has_name medium_entry_name image.now.name store.now.library.media) }
-    requires grown { IsLibrary (with_entry store.now.library (new_entry image.now.name)) }
+    requires grown { IsPlain (with_entry store.now.library (new_entry image.now.name)) }
     ensures library { IfOk result (λ x. x.0 ≡ with_entry store.now.library (new_entry image.now.name)) }
     ensures plan { IfOk result (λ x. x.1.changes ≡ library_changes (with_entry store.now.library (new_entry image.now.name))) }
 {

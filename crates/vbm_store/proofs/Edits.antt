@@ -12,7 +12,7 @@ use Rattle.vbm_intent.specs.Log.{IsShutInAll, SameBesidesLog, closed, IsBeforeOr
 use Rattle.vbm_intent.specs.Plan.{body_size}
 use Rattle.vbm_named.specs.Names.{Name, is_before, put_by}
 use Rattle.vbm_named.specs.Places.{place_for}
-use Rattle.vbm_registry.proofs.Stores.{not_open}
+use Rattle.vbm_standing.proofs.Stores.{not_open}
 
 one_more : (n : ℕ) → 1 + n ≡ suc n
 one_more n = omega arith

@@ -17,7 +17,8 @@ use Rattle.vbm_intent.proofs.Applying.{of_file-append, file_after-append}
 use Rattle.vbm_named.specs.Names.{Name}
 use Rattle.vbm_named.proofs.Lists.{name_refl}
 use Rattle.vbm_registry.specs.declared.library.Library.{Library}
-use Rattle.vbm_registry.specs.Library.{library_name, spelling}
+use Rattle.vbm_registry.specs.Library.{library_name}
+use Rattle.vbm_registry.specs.Spelling.{spelling}
 use Rattle.vbm_store.specs.Plans.{library_changes, gap_changes, front_changes, image_changes}
 use Rattle.vbm_store.proofs.Pushing.{Parts, parts, length-header_bytes}
 

@@ -13,9 +13,11 @@ use Rattle.vbm_header.specs.declared.Header.{Header}
 use Rattle.vbm_header.specs.Written.{header_bytes, start, sizes, identifiers}
 use Rattle.vbm_volume.specs.Like.{map_end}
 use Rattle.vbm_volume.specs.Made.{IsNewHeader}
-use Rattle.vbm_registry.proofs.Stores.{medium_not_log}
+use Rattle.vbm_standing.proofs.Stores.{medium_not_log}
 use Rattle.vbm_registry.specs.declared.library.Library.{Library}
-use Rattle.vbm_registry.specs.Library.{library_name, spelling}
+use Rattle.vbm_registry.specs.Library.{library_name}
+use Rattle.vbm_registry.specs.Spelling.{spelling}
+use Rattle.vbm_registry.specs.declared.library.TheConstants.{LONGEST_LIBRARY}
 use Rattle.vbm_store.specs.Plans.{library_changes, EndsBy}
 
 pub on_ok : {A B P Q : Type 0} (r : Result A B) → (P → Q) → OnOk r P → OnOk r Q
@@ -90,6 +92,9 @@ library_allowed c named limits = record {
   not_log = λ e. let no : library_name ≡ log_name = sym named ∙ e in absurd cc;
   limits = limits;
 }
+
+pub library_cut : (len : ℕ) → len ≤ LONGEST_LIBRARY → IsAllowed (Cut library_name len)
+library_cut len short = library_allowed (Cut library_name len) refl (omega (arith, short))
 
 spelling_some : (l : Library) → 0 < length (spelling l)
 unfolding spelling

@@ -18,16 +18,23 @@ use Rattle.vbm_volume.specs.Image.{image_of}
 use Rattle.vbm_volume.specs.Like.{IsLikeFile}
 use Rattle.vbm_volume.proofs.Likes.{image_fields, like_refl, like_image, like_flat}
 use Rattle.vbm_named.specs.Names.{Name, find_by, has_name}
-use Rattle.vbm_world.specs.World.{World, medium_off, off}
+use Rattle.vbm_world.specs.World.{World, off}
 use Rattle.vbm_world.specs.Loose.{Unsettled, AreAlike, IsLikeMedium, IsLoosely}
-use Rattle.vbm_world.specs.declared.world.WorldMedium.{WorldMedium}
 use Rattle.vbm_named.proofs.Lists.{All-map, All-both, All-join, any_none, has_found, each_found}
 use Rattle.vbm_world.proofs.Worlds.{loosely_refl, loosely_trans}
 use Rattle.vbm_registry.specs.declared.media.Medium.{Medium}
 use Rattle.vbm_registry.specs.declared.library.Library.{Library}
-use Rattle.vbm_registry.specs.Library.{library_name, medium_entry_name, IsListed, IsLibrary, IsQuiet}
-use Rattle.vbm_registry.specs.Stands.{header_in, medium_in, shelved_file, shelf_of, is_making, world_with, id_in, library_file, library_of, none_changed, Stands, redone, IsOwn, HaveOwnIds, IsStore}
-use Rattle.vbm_registry.proofs.Stores.{SameMedia, SameFiles, header_frame, store_frame, world_frame, held_if_store, medium_not_log, library_not_log, stands_shut}
+use Rattle.vbm_registry.specs.Library.{library_name, medium_entry_name, IsListed, IsPlain}
+use Rattle.vbm_registry.specs.Named.{named}
+use Rattle.vbm_standing.specs.Headers.{header_in, shelved_file}
+use Rattle.vbm_standing.specs.Meaning.{shelf_in, is_made, none_changed}
+use Rattle.vbm_standing.specs.Faults.{id_in, IsMediumFile, HaveOwnIds, IsStore}
+use Rattle.vbm_standing.specs.Stands.{library_file, library_of, Stands, redone}
+use Rattle.vbm_standing.specs.EditedFiles.{SameMediumFiles}
+use Rattle.vbm_standing.proofs.HeaderFacts.{header_frame}
+use Rattle.vbm_standing.proofs.PlainStores.{medium_alone, world_alone, world_plain, store_plain}
+use Rattle.vbm_standing.proofs.Stores.{same_files, store_frame, held_if_store, medium_not_log, library_not_log, stands_shut}
+use Rattle.vbm_standing.proofs.Worlds.{off_at_rest}
 use Rattle.vbm_store.specs.declared.store.Store.{Store}
 use Rattle.vbm_store.specs.declared.store.Image.{Image}
 use Rattle.vbm_store.specs.Listed.{is_listed}
@@ -36,11 +43,7 @@ use Rattle.vbm_store.specs.Serves.{rests, serves, image_in, IsSoundStore, Holds,
 
 -- ---- names
 
--- the files of media are among those with a medium's name
-pub same_files : (l : Library) (a b : Files) → IsLibrary l → SameMedia a b → SameFiles a b l.media
-same_files l a b lib all = All-map IsListed (λ m. b m.name ≡ a m.name) (λ m listed. all m.name listed.name) l.media lib.media
-
-pub same_media : (a b : Files) → SameBesidesLog a b → SameMedia a b
+pub same_media : (a b : Files) → SameBesidesLog a b → SameMediumFiles a b
 same_media a b same name named = sym (same name (medium_not_log name named))
 
 -- an item with a name, of a list whose items have P
@@ -62,12 +65,12 @@ pub images_same : (a b : Files) (ms : List Medium) → SameHeaders a b ms → ma
 images_same a b [] same = refl
 images_same a b (m ∷ ms) same = rw (same.0, images_same a b ms same.1) refl
 
-pub holds_besides : (l : Library) (images : List Image) (a b : Files) → IsLibrary l → SameBesidesLog a b → Holds l images a → Holds l images b
+pub holds_besides : (l : Library) (images : List Image) (a b : Files) → IsPlain l → SameBesidesLog a b → Holds l images a → Holds l images b
 holds_besides l images a b lib same holds =
-    let files = same_files l a b lib (same_media a b same) in
+    let files = same_files a b (same_media a b same) l lib in
     record {
       read = ap library_file (sym (same library_name library_not_log)) ∙ holds.read;
-      store = store_frame a b l l refl (omega arith) refl files holds.store;
+      store = store_frame a b l l refl (omega arith) refl lib.inners files holds.store;
       headers = holds.headers ∙ sym (images_same a b l.media (All-map _ _ (λ m e. header_frame a b m.name e) l.media files));
     }
 
@@ -107,40 +110,38 @@ module _ (u : Unsettled) (l : Library) (files image : Files) where
   unfolding header_in
   header_left m left = ap (λ o. fields (bytes_of o)) left.is ∙ sym (image_fields left.after _ (still_image m left))
 
-  own_left : (m : Medium) → IsLeft u l files image m → IsOwn l files m → IsOwn l image m
+  own_left : (m : Medium) → IsLeft u l files image m → IsMediumFile (named l) files m → IsMediumFile (named l) image m
   own_left m left own =
       let same = header_left m left in
       record {
-        file = left.after;
-        there = left.is;
-        accepted = still_image m left ∙ ap Ok (sym same);
+        image = record { file = left.after; there = left.is; accepted = still_image m left ∙ ap Ok (sym same) };
         whole = rw same own.whole;
         known = rw (same, id_in) own.known;
       }
 
   medium_left : (m : Medium) → IsLeft u l files image m
-      → IsLikeMedium (touched l u m.name) (medium_in none_changed files m) (medium_in none_changed image m)
-  unfolding medium_in
+      → IsLikeMedium (touched l u m.name) (medium_alone none_changed files m) (medium_alone none_changed image m)
+  unfolding medium_alone
   medium_left m left =
       let same = header_left m left in
       let disk = like_flat left.before left.after (header_in files m.name) (touched l u m.name) left.accepted left.like in
       record { rest = rw same refl; disk = rw (same, left.is, left.was) (record { as_long = disk.0; same = disk.1 }) }
 
 -- a name that no medium has is not listed
-unlisted : (l : Library) → IsLibrary l → (name : Name) → has_name medium_entry_name name l.media ≡ false → is_listed l name ≡ false
+unlisted : (l : Library) → IsPlain l → (name : Name) → has_name medium_entry_name name l.media ≡ false → is_listed l name ≡ false
 unlisted l lib name none = rw (none, lib.inners) refl
 
-module _ (u : Unsettled) (l : Library) (images : List Image) (files image : Files) (lib : IsLibrary l) (holds : Holds l images files)
+module _ (u : Unsettled) (l : Library) (images : List Image) (files image : Files) (lib : IsPlain l) (holds : Holds l images files)
     (keeps : KeepsEach (kind_of l files) (touched l u) files image) where
-  left_of : (m : Medium) → IsListed m × IsOwn l files m → find_by medium_entry_name m.name l.media ≡ Some m → IsLeft u l files image m
+  left_of : (m : Medium) → IsListed m × IsMediumFile (named l) files m → find_by medium_entry_name m.name l.media ≡ Some m → IsLeft u l files image m
   left_of m (listed, own) found =
       let has : has_name medium_entry_name m.name l.media ≡ true = has_found medium_entry_name m.name l.media ∙ ap is_some found in
-      let kept = listed_kept (header_in files m.name) (touched l u m.name) (files m.name) (image m.name) own.file own.there
+      let kept = listed_kept (header_in files m.name) (touched l u m.name) (files m.name) (image m.name) own.image.file own.image.there
       (rw has at (keeps m.name (medium_not_log m.name listed.name))) in
-      record { before = own.file; after = kept.0; was = own.there; is = kept.1; accepted = own.accepted; like = kept.2 }
+      record { before = own.image.file; after = kept.0; was = own.image.there; is = kept.1; accepted = own.image.accepted; like = kept.2 }
 
   all_left : AllByRecursion (IsLeft u l files image) l.media
-  all_left = All-join _ _ _ left_of l.media (All-both _ _ l.media lib.media holds.store.own) (each_found medium_entry_name l.media lib.rises)
+  all_left = All-join _ _ _ left_of l.media (All-both _ _ l.media lib.media holds.store.media) (each_found medium_entry_name l.media lib.rises)
 
   whole_left : (name : Name) → name ≢ log_name → has_name medium_entry_name name l.media ≡ false → is_whole l name ≡ true
       → image name ≡ files name
@@ -162,17 +163,15 @@ module _ (u : Unsettled) (l : Library) (images : List Image) (files image : File
       let headers = All-map _ _ (header_left u l files image) l.media all_left in
       record {
         read = read_left;
-        store = record {
-          own = All-join _ _ _ (own_left u l files image) l.media all_left holds.store.own;
-          distinct = distinct_same files image l.media headers holds.store.distinct;
-        };
+        store = store_plain l image lib.inners (All-join _ _ _ (own_left u l files image) l.media all_left holds.store.media)
+            (distinct_same files image l.media headers holds.store.distinct);
         headers = holds.headers ∙ sym (images_same files image l.media headers);
       }
 
-  shelf_left : (name : Name) → shelf_of l image name ≡ shelf_of l files name
+  shelf_left : (name : Name) → shelf_in (named l) image name ≡ shelf_in (named l) files name
   shelf_left name =
       let none = not (has_name medium_entry_name name l.media) in
-      let unmade = not (is_making l name) in
+      let unmade = not (is_made l.making name) in
       elim (cases_Bool (is_medium_name name && none && unmade)) [
         | inl on ↦
             let both = and_parts (is_medium_name name && none) unmade on in
@@ -182,76 +181,63 @@ module _ (u : Unsettled) (l : Library) (images : List Image) (files image : File
         | inr off ↦ rw off refl
       ]
 
-  world_left : IsLoosely u (world_with none_changed l files) (world_with none_changed l image)
-  unfolding world_with
-  world_left = record {
+  alone_left : IsLoosely u (world_alone none_changed l files) (world_alone none_changed l image)
+  unfolding world_alone
+  alone_left = record {
     rest = λ i. record {
       seed = l.seed;
       next = l.next;
       inner = l.inner;
-      media = map (medium_in none_changed image) l.media;
+      media = map (medium_alone none_changed image) l.media;
       machines = [];
       shelf = λ name. shelf_left name i;
     };
-    media = alike_map _ (medium_in none_changed files) (medium_in none_changed image) l.media
+    media = alike_map _ (medium_alone none_changed files) (medium_alone none_changed image) l.media
         (All-map _ _ (medium_left u l files image) l.media all_left);
     machines = tt;
   }
 
+  world_left : IsLoosely u (rests l files) (rests l image)
+  world_left =
+      subst (λ w. IsLoosely u w (rests l image)) (sym (world_plain none_changed l files lib.machines lib.merging))
+      (subst (λ w. IsLoosely u (world_alone none_changed l files) w) (sym (world_plain none_changed l image lib.machines lib.merging)) alone_left)
+
 -- ---- disks that are ready
 
-off_media : (files : Files) (ms : List Medium) → map medium_off (map (medium_in none_changed files) ms) ≡ map (medium_in none_changed files) ms
-unfolding medium_in
-off_media files [] = refl
-off_media files (m ∷ ms) = ap (λ (rest : List WorldMedium). medium_in none_changed files m ∷ rest) (off_media files ms)
-
--- the world of files is off
-pub off_at_rest : (l : Library) (files : Files) → off (world_with none_changed l files) ≡ world_with none_changed l files
-unfolding world_with
-off_at_rest l files = λ i. record {
-  seed = l.seed;
-  next = l.next;
-  inner = l.inner;
-  media = off_media files l.media i;
-  machines = [];
-  shelf = shelf_of l files;
-}
-
-pub loosely_at_rest : (u : Unsettled) (l : Library) (files : Files)
-    → IsLoosely u (off (world_with none_changed l files)) (world_with none_changed l files)
-loosely_at_rest u l files = rw (off_at_rest l files) (loosely_refl u (world_with none_changed l files))
+pub loosely_at_rest : (u : Unsettled) (l : Library) (files : Files) → IsLoosely u (off (rests l files)) (rests l files)
+loosely_at_rest u l files = subst (λ w. IsLoosely u w (rests l files)) (sym (off_at_rest (named l) files)) (loosely_refl u (rests l files))
 
 -- where nothing is staged, the files hold what is served, whatever is unsettled
 pub unstaged_here : (e : Store) (files : Files) (u : Unsettled) → IsLoosely u (off (serves e files)) (rests e.library files)
 unstaged_here e files u = loosely_at_rest u e.library files
 
 -- files are kept of themselves
-pub keeps_self : (l : Library) (files : Files) (loose : Name → ℕ → Bool) → IsLibrary l → IsStore l files
+pub keeps_self : (l : Library) (files : Files) (loose : Name → ℕ → Bool) → IsPlain l → IsStore (named l) files
     → KeepsEach (kind_of l files) loose files files
 keeps_self l files loose lib store name other = elim (cases_Bool (has_name medium_entry_name name l.media)) [
-  | inl has ↦ rw has (listed name (item_of medium_entry_name (IsOwn l files) name l.media store.own has))
+  | inl has ↦ rw has (listed name (item_of medium_entry_name (IsMediumFile (named l) files) name l.media store.media has))
   | inr none ↦
       let no = unlisted l lib name none in
       rw no (elim (cases_Bool (is_whole l name)) [ inl whole ↦ rw whole refl | inr free ↦ rw free tt ])
 ]
   where
-    listed : (name : Name) → (m : Medium) × (m.name ≡ name) × IsOwn l files m
+    listed : (name : Name) → (m : Medium) × (m.name ≡ name) × IsMediumFile (named l) files m
         → KeepsFile (Listed (header_in files name)) (loose name) (files name) (files name)
     listed name (m, same, own) = subst (λ n. KeepsFile (Listed (header_in files n)) (loose n) (files n) (files n)) same
-        (rw own.there (like_refl own.file (header_in files m.name) (loose m.name) own.accepted))
+        (rw own.image.there (like_refl own.image.file (header_in files m.name) (loose m.name) own.image.accepted))
 
 -- files that a store fits stand for its world
 pub fits_stands : (e : Store) (s : DiskState) → FitsDisk e s → s.may_leave s.files → Stands s.files (Ok (off (serves e s.files)))
 fits_stands e s fits now = stands_shut s.files _ (fits.frame s.files now).shut
-    (held_if_store e.library s.files fits.holds.read fits.holds.store ∙ ap Ok (sym (off_at_rest e.library s.files)))
+    (held_if_store e.library s.files fits.holds.read fits.holds.store ∙ ap Ok (sym (off_at_rest (named e.library) s.files)))
 
 -- a settled disk is ready with the sectors in which the files may differ from what is served
-pub settled_ready : (e : Store) (s : DiskState) (u : Unsettled) → IsSoundStore e → Holds e.library e.images s.files → IsQuiet e.library
+pub settled_ready : (e : Store) (s : DiskState) (u : Unsettled) → IsSoundStore e → Holds e.library e.images s.files
     → IsLoosely u (off (serves e s.files)) (rests e.library s.files) → Only s.files s.may_leave → IsShutInAll s.may_leave
     → s.may_leave s.files → IsReady e s u
-settled_ready e s u sound holds quiet here only shut now = record {
+settled_ready e s u sound holds here only shut now = record {
   fits = record { holds = holds; frame = keeps (λ name i. true) };
-  quiet = quiet;
+  plain = sound.library;
   keeps = keeps (touched e.library u);
   here = here;
 }
@@ -262,7 +248,7 @@ settled_ready e s u sound holds quiet here only shut now = record {
 
 -- ---- files that are kept
 
-module _ (u : Unsettled) (l : Library) (images : List Image) (files : Files) (lib : IsLibrary l) (holds : Holds l images files)
+module _ (u : Unsettled) (l : Library) (images : List Image) (files : Files) (lib : IsPlain l) (holds : Holds l images files)
     (w : World) (here : IsLoosely u w (rests l files)) (image : Files) (keeps : KeepsEach (kind_of l files) (touched l u) files image) where
   -- an image whose files are kept stands for the world, but for unsettled sectors
   pub kept_stands : IsShut (image log_name) → StandsLoosely w u image

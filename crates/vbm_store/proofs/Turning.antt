@@ -15,8 +15,8 @@ use Rattle.vbm_world.specs.World.{World, off}
 use Rattle.vbm_world.specs.Step.{step_of}
 use Rattle.vbm_world.specs.Loose.{Unsettled, all_settled, unsettled_after, IsLoosely}
 use Rattle.vbm_world.proofs.Worlds.{loosely_weaker}
-use Rattle.vbm_registry.specs.Stands.{none_changed}
-use Rattle.vbm_registry.proofs.Stores.{world_frame}
+use Rattle.vbm_standing.specs.Meaning.{none_changed}
+use Rattle.vbm_standing.proofs.Stores.{world_frame}
 use Rattle.vbm_store.specs.declared.store.Store.{Store}
 use Rattle.vbm_intent.specs.declared.log.Log.{Log}
 use Rattle.vbm_registry.specs.declared.library.Library.{Library}
@@ -30,7 +30,7 @@ use Rattle.vbm_store.specs.Serves.{rests, serves, IsSoundStore, Holds, FitsDisk,
 use Rattle.vbm_store.specs.Turns.{Turns, IsInStep, Turned}
 use Rattle.vbm_store.specs.Steps.{HasNoStrays, Advances, Stays, Manages, Answers}
 use Rattle.vbm_store.proofs.Keeping.{kept_itself, kept_besides}
-use Rattle.vbm_store.proofs.Readiness.{same_files, same_media, holds_besides, unstaged_here, keeps_self, settled_ready, kept_redone, ready_stands, ready_redone}
+use Rattle.vbm_store.proofs.Readiness.{same_media, holds_besides, unstaged_here, keeps_self, settled_ready, kept_redone, ready_stands, ready_redone}
 
 -- more sectors may be loose
 pub stands_more : (w : World) (u v : Unsettled) (image : Files) → StandsLoosely w u image → StandsLoosely w (both u v) image
@@ -61,7 +61,7 @@ module _ {tells : Type 0} (told : tells) (e : Store) {old new : DiskState} (read
   pub ready_read : (u : Unsettled) → IsReady e old u → IsReady e new u
   ready_read u ready = record {
     fits = fits_read ready.fits;
-    quiet = ready.quiet;
+    plain = ready.plain;
     keeps = keeps_read (touched e.library u) ready.keeps;
     here = subst (λ f. IsLoosely u (off (serves e f)) (rests e.library f)) (sym (reads.files told)) ready.here;
   }
@@ -81,7 +81,7 @@ module _ {tells : Type 0} (told : tells) (e : Store) {old new : DiskState} (read
       ready = λ u was. subst (IsReady e new) (sym (answers.1 u)) (ready_read u was);
       kept = kept_read;
       tidy = record {
-        quiet = sound.quiet;
+        plain = sound.library;
         strays = λ name inner unlisted none. ap (λ (f : Files). f name) (reads.files told) ∙ none;
       };
     }
@@ -107,9 +107,8 @@ module _ {u : Unsettled} {files : Files} {plan : List Change} {next : Store} {w 
   commit_turned new same only shut now =
       let lib = turns.sound.library in
       let back : SameBesidesLog to new.files = λ name other. sym (same name other) in
-      let all = same_media to new.files back in
       let world : rests next.library new.files ≡ rests next.library to =
-      world_frame to new.files all none_changed next.library (same_files next.library to new.files lib all) in
+      world_frame to new.files (same_media to new.files back) none_changed next.library lib in
       let serves_it : serves next new.files ≡ w = world ∙ turns.by in
       let here : IsLoosely u (off (serves next new.files)) (rests next.library new.files) =
       subst (λ v. IsLoosely u (off v) (rests next.library new.files)) (sym serves_it) (subst (IsLoosely u (off w)) (sym world) turns.here) in
@@ -117,7 +116,7 @@ module _ {u : Unsettled} {files : Files} {plan : List Change} {next : Store} {w 
         serves_it = serves_it;
         sound = turns.sound;
         ready = settled_ready next new u turns.sound (holds_besides next.library next.images to new.files lib back turns.holds)
-            turns.quiet here only shut now;
+            here only shut now;
       }
 
   -- each image inside the commit stands for the world before it, or for that after it
@@ -143,7 +142,6 @@ manages files e c plan next a sound fits holds by kept strays = record {
   turns = λ u. record {
     fits = fits;
     sound = sound;
-    quiet = sound.quiet;
     holds = holds;
     by = refl;
     here = unstaged_here next (changed plan files) u;
@@ -176,7 +174,7 @@ module _ {tells : Type 0} {e : Store} {c : Command} {plan : List Change} {next :
         ready = λ u was. (turned (unsettled_after u (serves e old.files) c)).ready;
         kept = kept_besides e.library next.library old.files (changed plan old.files) new.files sound.library same owes.kept;
         tidy = record {
-          quiet = settled.sound.quiet;
+          plain = settled.sound.library;
           strays = λ name inner unlisted none. same name (inner_not_log name inner) ∙ owes.strays name inner unlisted none;
         };
       }

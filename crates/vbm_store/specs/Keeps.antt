@@ -11,7 +11,8 @@ use Rattle.vbm_volume.specs.Like.{IsLikeFile}
 use Rattle.vbm_named.specs.Names.{Name}
 use Rattle.vbm_registry.specs.declared.library.Library.{Library}
 use Rattle.vbm_registry.specs.Library.{library_name}
-use Rattle.vbm_registry.specs.Stands.{header_in, is_making}
+use Rattle.vbm_standing.specs.Headers.{header_in}
+use Rattle.vbm_standing.specs.Meaning.{is_made}
 use Rattle.vbm_store.specs.Listed.{is_listed}
 
 -- how a crash leaves a file: as it is, as a listed image but for its loose sectors, or in any way
@@ -42,7 +43,7 @@ AllKeep kind loose files s = (image : Files) → s.may_leave image → Keeps kin
 
 -- the library's file, and the files of the shelf
 abbrev pub is_whole : Library → Name → Bool
-is_whole l name = bytes_eq name library_name || (is_medium_name name && not (is_making l name))
+is_whole l name = bytes_eq name library_name || (is_medium_name name && not (is_made l.making name))
 
 -- The library, the shelf and the listed images are kept; what is being made, and files that nothing names, need not be.
 abbrev pub kind_of : Library → Files → Name → Kind

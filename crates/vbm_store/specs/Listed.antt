@@ -1,20 +1,14 @@
 -- Which files a library names.
-use Rattle.std.specs.Prelude.{ℕ, ◌&&◌, ◌||◌, not, Bool, List, ◌++◌, codes}
+use Rattle.std.specs.Prelude.{◌&&◌, ◌||◌, not, Bool}
 use Rattle.std.specs.List.{list_any}
 use Rattle.std.specs.Str.{bytes_eq}
 use Rattle.vbm_ports.specs.Names.{is_medium_name}
-use Rattle.vbm_ids.specs.declared.Kind.TheVariants.{Inner as Drawn}
-use Rattle.vbm_ids.specs.Identifier.{identifier_of}
 use Rattle.vbm_named.specs.Names.{Name, has_name}
-use Rattle.vbm_world.specs.Texts.{id_text}
 use Rattle.vbm_registry.specs.declared.library.Inner.{Inner}
 use Rattle.vbm_registry.specs.declared.library.Library.{Library}
 use Rattle.vbm_registry.specs.Library.{medium_entry_name}
-use Rattle.vbm_registry.specs.Stands.{is_making}
-
--- the file of an inner image: its identifier in braces
-unfoldable pub inner_file : (seed : List ℕ) → ℕ → Name
-inner_file seed n = codes "{" ++ id_text (identifier_of seed Drawn n) ++ codes "}.vdi"
+use Rattle.vbm_standing.specs.ChainDisks.{inner_file}
+use Rattle.vbm_standing.specs.Meaning.{is_made}
 
 abbrev pub is_inner_of : Library → Name → Bool
 is_inner_of l name = list_any (λ (x : Inner). bytes_eq (inner_file l.seed x.number) name) l.inners
@@ -25,4 +19,4 @@ is_listed l name = has_name medium_entry_name name l.media || is_inner_of l name
 
 -- the files of the shelf: those with a medium's name that are no medium and are not being made
 abbrev pub is_on_shelf : Library → Name → Bool
-is_on_shelf l name = is_medium_name name && not (has_name medium_entry_name name l.media) && not (is_making l name)
+is_on_shelf l name = is_medium_name name && not (has_name medium_entry_name name l.media) && not (is_made l.making name)

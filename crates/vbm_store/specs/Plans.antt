@@ -9,7 +9,8 @@ use Rattle.vbm_intent.specs.declared.change.Change.TheVariants.{Write, Fill, Cut
 use Rattle.vbm_intent.specs.Changes.{TouchesByte, IsApart}
 use Rattle.vbm_named.specs.Names.{Name}
 use Rattle.vbm_registry.specs.declared.library.Library.{Library}
-use Rattle.vbm_registry.specs.Library.{library_name, spelling}
+use Rattle.vbm_registry.specs.Library.{library_name}
+use Rattle.vbm_registry.specs.Spelling.{spelling}
 use Rattle.vbm_header.specs.declared.TheConstants.{WRITTEN_LEN}
 
 -- the library's file holds these bytes, and no more

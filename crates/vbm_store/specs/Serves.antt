@@ -7,15 +7,19 @@ use Rattle.vbm_world.specs.World.{World, off}
 use Rattle.vbm_world.specs.Loose.{Unsettled, IsLoosely}
 use Rattle.vbm_registry.specs.declared.media.Medium.{Medium}
 use Rattle.vbm_registry.specs.declared.library.Library.{Library}
-use Rattle.vbm_registry.specs.Library.{medium_entry_name, IsLibrary, IsQuiet}
-use Rattle.vbm_registry.specs.Stands.{Stands, IsStore, world_with, none_changed, library_of, header_in}
+use Rattle.vbm_registry.specs.Library.{medium_entry_name, IsPlain}
+use Rattle.vbm_registry.specs.Named.{named}
+use Rattle.vbm_standing.specs.Headers.{header_in}
+use Rattle.vbm_standing.specs.Meaning.{world_with, none_runs, none_changed}
+use Rattle.vbm_standing.specs.Faults.{IsStore}
+use Rattle.vbm_standing.specs.Stands.{Stands, library_of}
 use Rattle.vbm_store.specs.declared.store.Store.{Store}
 use Rattle.vbm_store.specs.declared.store.Image.{Image}
 use Rattle.vbm_store.specs.Keeps.{AllKeep, kind_of}
 
 -- the world of a library at rest
 abbrev pub rests : Library → Files → World
-rests l files = world_with none_changed l files
+rests l files = world_with none_changed none_runs l files
 
 -- the files as they are served, through the images; none has staged entries yet
 abbrev pub view : List Image → Files → Files
@@ -23,7 +27,7 @@ view images files = files
 
 -- the world that a store serves; no machine runs yet, so that no medium has changed since a start
 abbrev pub serves : Store → Files → World
-serves e files = world_with none_changed e.library (view e.images files)
+serves e files = world_with none_changed none_runs e.library (view e.images files)
 
 abbrev pub image_id : Image → List ℕ
 image_id image = image.header.id
@@ -35,16 +39,15 @@ image_name image = image.name
 abbrev pub image_in : Files → Medium → Image
 image_in files m = record { name = m.name; header = header_in files m.name }
 
--- What holds of a store by itself: a library with its rules, in which nothing is being made or merged, and an image for each medium.
+-- What holds of a store by itself: a library of normal media alone, and an image for each medium.
 pub record IsSoundStore (e : Store) : Type 0 where
-  pub library : IsLibrary e.library
-  pub quiet : IsQuiet e.library
+  pub library : IsPlain e.library
   pub images : map image_name e.images ≡ map medium_entry_name e.library.media
 
 -- the store's library and images are those of the files
 pub record Holds (library : Library) (images : List Image) (files : Files) : Type 0 where
   pub read : library_of files ≡ Ok library
-  pub store : IsStore library files
+  pub store : IsStore (named library) files
   pub headers : images ≡ map (image_in files) library.media
 
 -- and a crash leaves the log shut and every file but for sectors that are not settled
@@ -59,7 +62,7 @@ touched l u name i = false
 -- The disk is ready with these sectors unsettled: a crash leaves all but them.
 pub record IsReady (e : Store) (s : DiskState) (u : Unsettled) : Type 0 where
   pub fits : FitsDisk e s
-  pub quiet : IsQuiet e.library
+  pub plain : IsPlain e.library
   pub keeps : AllKeep (kind_of e.library s.files) (touched e.library u) s.files s
   pub here : IsLoosely u (off (serves e s.files)) (rests e.library s.files)
 

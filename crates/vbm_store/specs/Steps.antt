@@ -15,7 +15,7 @@ use Rattle.vbm_world.specs.World.{World}
 use Rattle.vbm_world.specs.Step.{step_of}
 use Rattle.vbm_world.specs.Loose.{Unsettled, unsettled_after}
 use Rattle.vbm_registry.specs.declared.library.Library.{Library}
-use Rattle.vbm_registry.specs.Library.{medium_entry_name, IsLibrary, IsQuiet}
+use Rattle.vbm_registry.specs.Library.{medium_entry_name, IsPlain}
 use Rattle.vbm_store.specs.declared.store.Store.{Store}
 use Rattle.vbm_store.specs.declared.decision.Turn.{Turn}
 use Rattle.vbm_store.specs.declared.decision.Decision.{Decision}
@@ -32,9 +32,9 @@ use Rattle.vbm_store.specs.Turns.{Turns}
 abbrev pub HasNoStrays : Library → Files → Files → Type 0
 HasNoStrays l files now = (name : Name) → IsTrue (is_inner_name name) → IsFalse (is_inner_of l name) → files name ≡ None → now name ≡ None
 
--- a tidy store: nothing is being made or merged, and there are no strays
+-- a tidy store: its library has normal media alone, and there are no strays
 pub record IsTidy (l : Library) (files now : Files) : Type 0 where
-  pub quiet : IsQuiet l
+  pub plain : IsPlain l
   pub strays : HasNoStrays l files now
 
 -- ---- a step
@@ -89,7 +89,7 @@ Decides files e c (Err it) = Refuses files e c it
 -- what holds of a turn over any disk
 abbrev pub IsSoundTurn : Store → Turn → Type 0
 IsSoundTurn e turn =
-    IsLibrary turn.library × IsQuiet turn.library × (map image_name (edited turn.edit e.images) ≡ map medium_entry_name turn.library.media)
+    IsPlain turn.library × (map image_name (edited turn.edit e.images) ≡ map medium_entry_name turn.library.media)
 
 abbrev pub DecidesSound : Store → Result Decision (Undone Refusal) → Type 0
 DecidesSound e (Ok (decisions.Answer a)) = Unit {0}

@@ -6,7 +6,6 @@ use Rattle.vbm_intent.specs.declared.change.Change.{Change}
 use Rattle.vbm_intent.specs.Changes.{changed, Fits}
 use Rattle.vbm_world.specs.World.{World, off}
 use Rattle.vbm_world.specs.Loose.{Unsettled, IsLoosely}
-use Rattle.vbm_registry.specs.Library.{IsQuiet}
 use Rattle.vbm_store.specs.declared.store.Store.{Store}
 use Rattle.vbm_store.specs.Serves.{rests, serves, IsSoundStore, Holds, IsReady, StandsLoosely}
 
@@ -15,7 +14,6 @@ use Rattle.vbm_store.specs.Serves.{rests, serves, IsSoundStore, Holds, IsReady, 
 pub record Turns (u : Unsettled) (files : Files) (plan : List Change) (next : Store) (w : World) : Type 0 where
   pub fits : Fits plan files
   pub sound : IsSoundStore next
-  pub quiet : IsQuiet next.library
   pub holds : Holds next.library next.images (changed plan files)
   pub by : serves next (changed plan files) ≡ w
   pub here : IsLoosely u (off w) (rests next.library (changed plan files))

@@ -3,6 +3,8 @@
 #![tactic(auto)]
 
 #[cfg(test)]
+mod blockmaps;
+#[cfg(test)]
 mod headers;
 #[cfg(test)]
 mod histories;

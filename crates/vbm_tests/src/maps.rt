@@ -4,9 +4,10 @@ ghost use Rattle.std.specs.Prelude.{◌≡◌, length};
 
 use std::process::Abort;
 use uuid::Uuid;
+use vbm_blockmap::check_map;
 use vbm_header::{BadImage, Header, ImageType};
 use vbm_ports::{Disk, Failed, names_medium};
-use vbm_volume::{MapFault, check_map, read_map};
+use vbm_volume::{MapFault, read_map};
 
 /// The place of the block map, in bytes.
 const MAP_AT: u64 = 512;

@@ -14,7 +14,8 @@ use Rattle.vbm_world.specs.Loose.{Unsettled, all_settled, is_refused, left_unset
 use Rattle.vbm_world.specs.Texts.{line_of}
 use Rattle.vbm_world.proofs.Numbers.{same_next}
 use Rattle.vbm_served.specs.Served.{is_served, IsServed}
-use Rattle.vbm_registry.specs.Stands.{Stands}
+use Rattle.vbm_registry.specs.Named.{named}
+use Rattle.vbm_standing.specs.Stands.{Stands}
 use Rattle.vbm_engine.specs.declared.engine.Engine.{Engine}
 use Rattle.vbm_engine.specs.declared.engine.Opened.TheVariants.{Open, Fault}
 use Rattle.vbm_engine.specs.Serves.{serves, IsSoundEngine, IsReady}
@@ -23,7 +24,7 @@ use Rattle.vbm_engine.specs.Steps.{Advances, Stays, IsInCommand}
 use Rattle.vbm_engine.specs.Opens.{StandsAlike, SyncsFirst}
 use Rattle.vbm_engine.proofs.Openings.{syncs_goes_on, opened_synced}
 use Rattle.vbm_engine.proofs.Serving.{ready_stands, before_step}
-use Rattle.vbm_store.proofs.Readiness.{off_at_rest}
+use Rattle.vbm_standing.proofs.Worlds.{off_at_rest}
 use Rattle.vbm_top.specs.declared.status.Status.{Status}
 use Rattle.vbm_top.specs.declared.status.Status.TheVariants.{NoMemory}
 use Rattle.vbm_top.specs.Streams.{Stream}
@@ -109,7 +110,7 @@ module _ (tells : Type 0) (files : Files) (e same : Engine) (c : Command) (d1 d2
       is_undone t closed = record {
         world = serves e d1.files;
         stood = stood t;
-        stands = subst (λ w. Stands d3.files (Ok w)) (ap off (stays t).same ∙ off_at_rest e.store.library d1.files) closed.stands;
+        stands = subst (λ w. Stands d3.files (Ok w)) (ap off (stays t).same ∙ off_at_rest (named e.store.library) d1.files) closed.stands;
         settled = closed.settled;
       }
   memory_ends sink wanted status stood six none (inr fails) = broken none fails.0

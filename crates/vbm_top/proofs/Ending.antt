@@ -13,7 +13,7 @@ use Rattle.vbm_lines.specs.Lines.{Line, Short, TooLong, words_in}
 use Rattle.vbm_world.specs.Loose.{Unsettled, all_settled}
 use Rattle.vbm_served.specs.Runs.{Untied, Runs, IsCommandLine}
 use Rattle.vbm_served.proofs.Commands.{one_command}
-use Rattle.vbm_registry.specs.Stands.{Stands}
+use Rattle.vbm_standing.specs.Stands.{Stands}
 use Rattle.vbm_lines.specs.Inputs.{AreRead, IsAllRead, IsCutOff, IsTooLong}
 use Rattle.vbm_lines.specs.Reader.{Reader, IsAt}
 use Rattle.vbm_engine.specs.declared.engine.Engine.{Engine}

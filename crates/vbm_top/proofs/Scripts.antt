@@ -5,7 +5,7 @@ use Rattle.vbm_ports.specs.Disk.{DiskState, Passes, OnlyReads, IsCoherent}
 use Rattle.vbm_ports.proofs.States.{Passes-trans, Passes-weaker}
 use Rattle.vbm_world.specs.World.{World}
 use Rattle.vbm_registry.specs.declared.fault.BadStore.{BadStore}
-use Rattle.vbm_registry.specs.Stands.{Stands}
+use Rattle.vbm_standing.specs.Stands.{Stands}
 use Rattle.vbm_engine.specs.declared.engine.Engine.{Engine}
 use Rattle.vbm_engine.specs.declared.engine.Opened.{Opened}
 use Rattle.vbm_engine.specs.declared.engine.Opened.TheVariants.{Open, Refused, Fault}

@@ -19,7 +19,7 @@ use Rattle.vbm_world.specs.Texts.{id_text, line_of}
 use Rattle.vbm_world.specs.Loose.{Unsettled, all_settled, is_refused}
 use Rattle.vbm_registry.specs.declared.fault.BadStore.{BadStore}
 use Rattle.vbm_registry.specs.declared.fault.BadStore.TheVariants.{NoLibrary, BadLog, BadLibrary, MissingFile, BadImage, WrongType, WrongId, BrokenLink, SameId}
-use Rattle.vbm_registry.specs.Stands.{Stands}
+use Rattle.vbm_standing.specs.Stands.{Stands}
 use Rattle.vbm_engine.specs.declared.engine.Engine.{Engine}
 use Rattle.vbm_engine.specs.Serves.{serves, IsReady}
 use Rattle.vbm_store.specs.Serves.{StandsLoosely}

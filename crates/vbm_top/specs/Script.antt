@@ -13,7 +13,7 @@ use Rattle.vbm_world.specs.Loose.{Unsettled, all_settled, is_refused}
 use Rattle.vbm_served.specs.Runs.{IsCommandLine, Untied, Runs}
 use Rattle.vbm_lines.specs.Inputs.{AreFirst, AreRead, IsAllRead, IsCutOff, IsTooLong}
 use Rattle.vbm_registry.specs.declared.fault.BadStore.{BadStore}
-use Rattle.vbm_registry.specs.Stands.{Stands}
+use Rattle.vbm_standing.specs.Stands.{Stands}
 use Rattle.vbm_store.specs.Serves.{StandsLoosely}
 use Rattle.vbm_engine.specs.Steps.{IsInCommand}
 use Rattle.vbm_engine.specs.Opens.{AreRedone, StandsAlike}

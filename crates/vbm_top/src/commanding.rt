@@ -6,7 +6,7 @@ ghost use Rattle.vbm_ports.specs.Disk.{Passes};
 ghost use Rattle.vbm_ports.specs.Files.{Files};
 ghost use Rattle.vbm_world.specs.Loose.{Unsettled, all_settled};
 ghost use Rattle.vbm_served.specs.Served.{IsServed};
-ghost use Rattle.vbm_registry.specs.Stands.{Stands};
+ghost use Rattle.vbm_standing.specs.Stands.{Stands};
 ghost use Rattle.vbm_engine.specs.Serves.{serves, IsSoundEngine, IsReady};
 ghost use Rattle.vbm_engine.specs.Steps.{IsInCommand};
 ghost use Rattle.vbm_top.specs.Statuses.{is_disk_fault};

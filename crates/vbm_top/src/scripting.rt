@@ -5,7 +5,7 @@ ghost use Rattle.vbm_ports.specs.Counts.{IsCounted};
 ghost use Rattle.vbm_ports.specs.Files.{Files};
 ghost use Rattle.vbm_world.specs.Loose.{Unsettled};
 ghost use Rattle.vbm_lines.specs.Lines.{Line};
-ghost use Rattle.vbm_registry.specs.Stands.{Stands};
+ghost use Rattle.vbm_standing.specs.Stands.{Stands};
 ghost use Rattle.vbm_engine.specs.Serves.{serves, IsSoundEngine, IsReady};
 ghost use Rattle.vbm_lines.specs.Reader.{IsAt, left_over};
 ghost use Rattle.vbm_top.specs.Statuses.{is_disk_fault};

@@ -1,5 +1,5 @@
 use Rattle.std.proofs.Common.{◌≡◌, Err, subst}
-use Rattle.vbm_registry.specs.Stands.{held_by}
+use Rattle.vbm_standing.specs.Stands.{held_by}
 use Rattle.vbm_engine.specs.Parts.{OnBad}
 use Rattle.vbm_engine.proofs.Openings.{opens_since, closed_refused, untouched, read_alike, goes_on_alike}
 use Rattle.vbm_engine.proofs.opening.open_closed.Goals as goal

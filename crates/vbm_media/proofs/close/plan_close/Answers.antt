@@ -1,8 +1,8 @@
 use Rattle.std.proofs.Common.{ap}
 use Rattle.vbm_named.specs.Names.{without}
 use Rattle.vbm_store.specs.Serves.{image_name}
-use Rattle.vbm_registry.proofs.Stores.{library_without}
-use Rattle.vbm_media.proofs.Closes.{images_less, quiet_less, closes}
+use Rattle.vbm_standing.proofs.Stores.{library_without}
+use Rattle.vbm_media.proofs.Closes.{images_less, closes}
 use Rattle.vbm_media.proofs.close.plan_close.Goals as goal
 
 pub returns-clause-plans : goal.returns-clause-plans
@@ -15,4 +15,4 @@ pub returns-clause-sound : goal.returns-clause-sound
 returns-clause-sound c =
     let e = c.args.store.now in
     rw (c.in_ok-library.ensures.library, c.in_ok-library.ensures.name)
-    (library_without e.library c.args.name.now c.requires.sound.library, quiet_less e.library c.args.name.now c.requires.sound.quiet, images_less e c.args.name.now c.requires.sound)
+    (library_without e.library c.args.name.now c.requires.sound.library, images_less e c.args.name.now c.requires.sound)

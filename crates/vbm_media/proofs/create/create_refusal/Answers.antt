@@ -21,7 +21,7 @@ returns-clause-answer g c = λ told.
     let full = ap (nat_le MEDIA_LIMIT) c.len.ensures in
     c.first_that_holds.ensures
     ∙ (λ i. first_check (taken i) (there i) (size i) (full i) (nat_le NUMBER_LIMIT l.next))
-    ∙ refusal_is l files name (capacity_of c.args.size) c.requires.quiet c.requires.name
+    ∙ refusal_is l files name (capacity_of c.args.size) c.requires.library c.requires.name
 
 pub returns-clause-can : goal.returns-clause-can
 returns-clause-can g c = λ none.

@@ -1,14 +1,11 @@
 use Rattle.std.proofs.Common.{refl}
-use Rattle.vbm_media.proofs.Registers.{images_more, library_more, quiet_more, registers}
+use Rattle.vbm_media.proofs.Registers.{images_more, library_more, registers}
 use Rattle.vbm_media.proofs.register.plan_open.Goals as goal
 
 pub add_entry-requires-clause-grown : goal.add_entry-requires-clause-grown
 add_entry-requires-clause-grown c =
     let image = c.args.image in
     library_more c.args.store.now image.header image.name c.requires.can.allowed c.requires.sound.library c.requires.name c.requires.can.free
-
-pub add_entry-requires-clause-quiet : goal.add_entry-requires-clause-quiet
-add_entry-requires-clause-quiet c = c.requires.sound.quiet
 
 pub returns-clause-plans : goal.returns-clause-plans
 returns-clause-plans c files holds read =
@@ -22,6 +19,5 @@ returns-clause-sound c =
     let image = c.args.image in
     rw c.in_ok-library.ensures.library (
       library_more c.args.store.now image.header image.name c.requires.can.allowed c.requires.sound.library c.requires.name c.requires.can.free,
-      quiet_more c.args.store.now image.name c.requires.sound.quiet,
       images_more c.args.store.now image c.requires.sound,
     )

@@ -2,7 +2,7 @@ use Rattle.std.proofs.Common.{Ok, sym, subst}
 use Rattle.std.proofs.lemmas.Result.{on_ok_weaker}
 use Rattle.vbm_ports.proofs.States.{Passes-weaker}
 use Rattle.vbm_world.specs.World.{off}
-use Rattle.vbm_registry.specs.Stands.{Stands}
+use Rattle.vbm_standing.specs.Stands.{Stands}
 use Rattle.vbm_store.specs.Serves.{serves}
 use Rattle.vbm_store.proofs.Readiness.{fits_stands, ready_stands}
 use Rattle.vbm_store.proofs.Turning.{kept_read}
