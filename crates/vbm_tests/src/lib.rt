@@ -9,6 +9,10 @@ mod headers;
 #[cfg(test)]
 mod histories;
 #[cfg(test)]
+mod images;
+#[cfg(test)]
 mod maps;
 #[cfg(test)]
 mod ports;
+#[cfg(test)]
+mod quiet;
