@@ -1,6 +1,7 @@
 # Completion of vbm for bash: source this file, or put it under /usr/share/bash-completion/completions/vbm.
 
-# The forms of commands. FILE, NAME and NEW are completed with images of the folder, except where NEW is a file to be made.
+# The forms of commands. FILE, NAME and NEW are completed with images of the folder, except where NEW is a file to be made. A word
+# with dots may stand more than once.
 # tests/people/check.py compares the table with the grammar.
 _vbm_forms='
 init
@@ -12,11 +13,23 @@ closemedium NAME
 closemedium NAME --delete
 showmediuminfo NAME
 list hdds
-peek FILE LBA
+peek FILE... LBA
 script
 --help
 --version
 '
+
+# Repeats a word with dots up to the one that is completed.
+_vbm_repeat() {
+  local i word
+  for ((i = 0; i <= ${#typed[@]}; i++)); do
+    [[ ${form[i]-} == *... ]] || continue
+    word=${form[i]%...}
+    for (( ; i <= ${#typed[@]}; i++)); do
+      form[i]=$word
+    done
+  done
+}
 
 # Whether the typed words begin the words of a form, where a word in capitals stands for any word.
 _vbm_begins() {
@@ -39,6 +52,7 @@ _vbm() {
   local -a form typed=("${COMP_WORDS[@]:1:COMP_CWORD-1}") found=()
   while read -r line; do
     read -ra form <<<"$line"
+    _vbm_repeat
     _vbm_begins || continue
     next=${form[${#typed[@]}]-}
     case $next in

@@ -14,7 +14,20 @@ import sys
 import tempfile
 
 ROOT = os.path.dirname(os.path.dirname(os.path.dirname(os.path.abspath(__file__))))
-WORD = "_"
+WORD, WORDS = "_", "_..."  # any word, and one or more of them
+
+
+def placed(word):
+    """What stands in a form for a word of a table or a text: its own, or any in place of one in capitals."""
+    return word if not word.isupper() else WORDS if word.endswith("...") else WORD
+
+
+def fits(form, words):
+    """Whether words are of a form."""
+    if WORDS in form:
+        k, more = form.index(WORDS), len(words) - len(form) + 1
+        form = form[:k] + (WORD,) * max(more, 1) + form[k + 1:]
+    return len(form) == len(words) and all(f in (WORD, w) for f, w in zip(form, words))
 
 
 def text(*path):
@@ -65,12 +78,15 @@ class Definitions:
     def forms(self, body, only=()):
         """The lists of words that an expression gives; `only` has (variable, constructor) pairs that hold."""
         alternatives = [()]
-        for part in re.split(r" ∷ | \+\+ ", body):
+        # A variable before `++` stands for words.
+        for part in re.split(r" ∷ | \+\+ ", re.sub(r"∷ \(?(\w+) \+\+ ", r"∷ \1... ∷ ", body)):
             part = part.strip()
             words = part.strip("()").split()
             if part == "[]":
                 continue
-            if words[0] == "codes":
+            if part.endswith("..."):
+                choices = [(WORDS,)]
+            elif words[0] == "codes":
                 choices = [(w,) for w in re.findall(r'"([^"]*)"', part)]
             elif self.types.get(words[0], "").endswith("→ Words"):
                 wanted = [c for v, c in only if v in words[1:]]
@@ -122,7 +138,7 @@ def first_word(body):
 def refusals(definitions):
     """The texts of the refusals that a served command, or `peek`, may get."""
     files = [("vbm_world", file) for file in families()]
-    used = set().union(*(imported("Refusal", "crates", crate, "specs", file) for crate, file in [*files, ("vbm_served", "Runs.antt"), ("vbm_top", "Peek.antt")]))
+    used = set().union(*(imported("Refusal", "crates", crate, "specs", file) for crate, file in [*files, ("vbm_served", "Runs.antt"), ("vbm_peek", "Peek.antt")]))
     return {first_word(body) for patterns, body in definitions.equations["refusal_text"] if patterns[0][0] in used}
 
 
@@ -173,9 +189,9 @@ class Manual:
         for form in re.split(r"(?m)^\.Nm\n", self.sections["SYNOPSIS"])[1:]:
             choices = []
             for line in form.strip().split("\n"):
-                words = line.lstrip(".").split()
+                words = line.lstrip(".").replace(" ...", "...").split()
                 plain = words[words[0] == "Op":]
-                spelled = tuple({"Ar": WORD, "Fl": "-" + w, "Cm": w}[m] for m, w in zip(plain[::2], plain[1::2]))
+                spelled = tuple({"Ar": placed(w), "Fl": "-" + w, "Cm": w}[m] for m, w in zip(plain[::2], plain[1::2]))
                 choices.append([spelled, ()] if words[0] == "Op" else [spelled])
             forms |= {sum(choice, ()) for choice in itertools.product(*choices)}
         return forms
@@ -210,7 +226,7 @@ def help_text(cases, forms):
     done = subprocess.run([os.path.join(ROOT, "bin", "vbm"), "--help"], stdout=subprocess.PIPE, timeout=60)
     told = set()
     for line in re.findall(r"(?m)^  vbm (.*?)  ", done.stdout.decode()):
-        words = [WORD if w.strip("[]").isupper() else w.strip("[]") for w in line.split()]
+        words = [placed(w.strip("[]")) for w in re.sub(r"(\w+) \[\1 \.\.\.\]", r"\1...", line).split()]
         told |= {tuple(words)} | ({tuple(words[:-1])} if line.endswith("]") else set())
     cases.same("the forms of bin/vbm --help", forms | own_forms(), told)
 
@@ -252,9 +268,11 @@ def candidates(rows, typed):
     """What can come behind these words, by a table of forms."""
     found = set()
     for row in rows:
+        for k in [k for k, word in enumerate(row) if word.endswith("...")]:
+            row = (*row[:k], *[row[k]] * max(len(typed) + 1 - k, 1), *row[k + 1:])
         if len(row) > len(typed) and all(r == t or r.isupper() for r, t in zip(row, typed)):
             word = row[len(typed)]
-            is_file = word in ("NAME", "FILE") or word == "NEW" and row[0] != "createmedium"
+            is_file = word in ("NAME", "FILE", "FILE...") or word == "NEW" and row[0] != "createmedium"
             found |= {word} if not word.isupper() else set(FILES) if is_file else set()
     return found
 
@@ -273,7 +291,7 @@ def asked(shell, script, queries):
 def completions(cases, forms):
     for name, path in (("bash", "vbm.bash"), ("zsh", "_vbm")):
         rows = table("completions", path)
-        cases.same("the forms of " + path, forms, {tuple(WORD if w.isupper() else w for w in row) for row in rows})
+        cases.same("the forms of " + path, forms, {tuple(placed(w) for w in row) for row in rows})
         if not shutil.which(name):
             print("skipped: running completions/%s (tests/people), since there is no %s" % (path, name))
             continue
@@ -283,7 +301,8 @@ def completions(cases, forms):
         for words, found in zip(typed, got):
             cases.same("%s behind `vbm %s`" % (path, " ".join(words)), candidates(rows, words), found)
     begun = {"creat": {"createmedium"}, "createmedium z.vdi --size": {"--size", "--sizebyte"}, "createmedium z.vdi --sizeb": {"--sizebyte"},
-             "closemedium so": {"some.vdi"}, "closemedium some.vdi": {"some.vdi"}, "peek y": set(), "createmedium so": set()}
+             "closemedium so": {"some.vdi"}, "closemedium some.vdi": {"some.vdi"}, "peek y": set(), "peek x.vdi so": {"some.vdi"},
+             "createmedium so": set()}
     for (words, wanted), found in zip(begun.items(), asked(["bash", "--norc"], BASH, begun)):
         cases.same("vbm.bash at `vbm %s`" % words, wanted, found)
 
@@ -301,7 +320,7 @@ def examples(cases, forms):
             lines += [(file, line) for line in re.findall(r"(?m)^(?:\$ )?(vbm [a-z].*)$", found) + re.findall(r"`(vbm [a-z][^`]*)`", found)]
     for file, line in lines:
         words = shlex.split(re.split(r"[<|>]| && |  ", line)[0])[1:]
-        good = any(len(f) == len(words) and all(a == WORD or a == w for a, w in zip(f, words)) for f in forms)
+        good = any(fits(f, words) for f in forms)
         cases.holds("%s: no form" % file, good, line)
 
 

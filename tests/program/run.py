@@ -82,6 +82,28 @@ def sectors(cases):
     cases.run("through bin/vbm", ["peek", "p.vdi", "4096"], 0, sector(1), files=p, program=os.path.join(ROOT, "bin", "vbm"))
 
 
+def chain(n):
+    """The files of a chain of n images of n blocks, base first: image k alone has block k, filled with the byte k + 1."""
+    files = []
+    for k in range(n):
+        f = bytearray(image([0 if b == k else FREE for b in range(n)], n * MIB, 1, 4 if k else 1))
+        f[392:456] = bytes([2 * k + 1] * 16 + [2 * k + 2] * 16 + ([2 * k - 1] * 16 + [2 * k] * 16 if k else [0] * 32))
+        files.append(("%d.vdi" % k, bytes(f) + bytes([k + 1]) * MIB))
+    return files
+
+
+def chains(cases):
+    files = chain(32)
+    names = [name for name, _ in files]
+    for k in (0, 16, 31):
+        cases.run("block %d of a chain" % k, ["peek", *names, str(2048 * k + 1)], 0, sector(k + 1), files=files)
+    cases.run("a block that those below have", ["peek", *names[:2], "4096"], 0, sector(0), files=files[:3])
+    cases.run("a chain without a file", ["peek", *names, "0"], 1, b"error 08 NoSuchFile\n", files=files[:31])
+    cases.run("a chain without an image", ["peek", *names[:3], *names[4:], "0"], 1, b"error 28 BrokenChain 3\n", files=files)
+    cases.run("a file too many", ["peek", *names, names[31], "0"], 2, b"", b"words not understood\n", files=files)
+    cases.run("a chain through bin/vbm", ["peek", *names[:2], "2048"], 0, sector(2), files=files[:2], program=os.path.join(ROOT, "bin", "vbm"))
+
+
 def refusals(cases):
     good = image() + data()
 
@@ -104,6 +126,7 @@ def refusals(cases):
 
 def words(cases):
     for line in [[], [""], ["frob"], ["peek"], ["peek", "p.vdi"], ["peek", "p.vdi", "0", "0"], ["peek", "p.vdi", "00"], ["peek", "p.vdi", "+1"],
+                 ["peek", "p.vdi", "q.vdi"], ["peek", "p.vdi", "0", "q.vdi"], ["peek", "p.vdi", "../q.vdi", "0"],
                  ["peek", "p.vdi", "18446744073709551616"], ["peek", "../p.vdi", "0"], ["peek", ".vdi", "0"], ["peek", "p.vdi ", "0"],
                  ["peek", b"\xff.vdi", "0"], ["peek", "p.vdi", "1" * 20000], ["x" * 100000]]:
         cases.run("words %.40r" % line, line, 2, b"", b"words not understood\n")
@@ -379,7 +402,7 @@ class Answers:
 
 def main():
     cases = Cases(os.path.abspath(sys.argv[1]))
-    for part in (sectors, refusals, words, folders, outputs, media, foreign_files, refused_stores, long_records, scripts, random_scripts):
+    for part in (sectors, chains, refusals, words, folders, outputs, media, foreign_files, refused_stores, long_records, scripts, random_scripts):
         part(cases)
     print("program: %d passed, %d failed" % (cases.passed, cases.failed))
     return 1 if cases.failed else 0

@@ -334,6 +334,8 @@ def causes(cases, program):
     wanted = {"vbm: link.vdi is a symbolic link", "vbm: folder.vdi is a folder", "vbm: %s is a pipe or a device, and no file" % inner}
     cases.same("links, folders and pipes under names of the store", wanted, set(said()))
     cases.same("those of peek", ["vbm: folder.vdi is a folder"], said("peek", "folder.vdi", "0"))
+    cases.same("those of peek at several files", ["vbm: link.vdi is a symbolic link", "vbm: folder.vdi is a folder"],
+               said("peek", "link.vdi", "x.vdi", "folder.vdi", "0"))
     for name in ("link.vdi", inner):
         os.remove(os.path.join(tree.folder, name))
     os.rmdir(os.path.join(tree.folder, "folder.vdi"))

@@ -1,5 +1,5 @@
 -- Words are one form of `peek` and of `init` at most.
-use Rattle.std.proofs.Common.{◌≡◌, ℕ, true, false, List, [], ◌∷◌, Some, refl, sym, ap, ◌∙◌, inl, Result, Ok, Err}
+use Rattle.std.proofs.Common.{◌≡◌, ℕ, true, false, List, [], ◌∷◌, ◌++◌, Some, refl, sym, ap, ◌∙◌, inl, Result, Ok, Err}
 use Rattle.std.specs.Prelude.{codes, decimal, IsOk, ◌↔◌}
 use Rattle.std.proofs.lemmas.Fmt.{decimal_injective}
 use Rattle.uuid.specs.Text.{parsed}
@@ -9,12 +9,25 @@ use Rattle.vbm_ids.specs.Identifier.{IsSeed}
 use Rattle.vbm_world.specs.Texts.{id_text}
 use Rattle.vbm_top.specs.Run.{IsPeek, IsInit, drawn, given}
 
-pub one_peek : (words : Words) (m n : List ℕ) (k l : ℕ) → IsPeek words m k → IsPeek words n l → (m ≡ n) × (k ≡ l)
-one_peek words m n k l g h =
-    let both : codes "peek" ∷ m ∷ decimal k ∷ [] ≡ codes "peek" ∷ n ∷ decimal l ∷ [] = sym g.spelled ∙ h.spelled in
-    let names : m ≡ n = cc in
-    let texts : decimal k ≡ decimal l = cc in
-    (names, decimal_injective k l g.fits h.fits texts)
+-- a list and its last item
+one_end : {X : Type 0} (xs ys : List X) (x y : X) → xs ++ x ∷ [] ≡ ys ++ y ∷ [] → (xs ≡ ys) × (x ≡ y)
+one_end [] [] x y same = let last : x ≡ y = cc in (refl, last)
+one_end [] (z ∷ []) x y same = absurd cc
+one_end [] (z ∷ w ∷ ys) x y same = absurd cc
+one_end (z ∷ []) [] x y same = absurd cc
+one_end (z ∷ w ∷ xs) [] x y same = absurd cc
+one_end (z ∷ xs) (w ∷ ys) x y same =
+    let first : z ≡ w = cc in
+    let rest : xs ++ x ∷ [] ≡ ys ++ y ∷ [] = cc in
+    let ends = one_end xs ys x y rest in
+    (ap (λ v. v ∷ xs) first ∙ ap (λ vs. w ∷ vs) ends.0, ends.1)
+
+pub one_peek : (words : Words) (a b : List (List ℕ)) (k l : ℕ) → IsPeek words a k → IsPeek words b l → (a ≡ b) × (k ≡ l)
+one_peek words a b k l g h =
+    let both : codes "peek" ∷ (a ++ decimal k ∷ []) ≡ codes "peek" ∷ (b ++ decimal l ∷ []) = sym g.spelled ∙ h.spelled in
+    let same : a ++ decimal k ∷ [] ≡ b ++ decimal l ∷ [] = cc in
+    let ends = one_end a b (decimal k) (decimal l) same in
+    (ends.0, decimal_injective k l g.fits h.fits ends.1)
 
 pub no_identifier : {E : Type 0} (word : List ℕ) (r : Result (List ℕ) E) → (IsOk r ↔ ((u : List ℕ) × (parsed word ≡ Some u)))
     → ((x : List ℕ) → r ≡ Ok x → ⊥) → (seed : List ℕ) → IsSeed seed → word ≡ id_text seed → ⊥

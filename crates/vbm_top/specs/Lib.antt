@@ -1,4 +1,3 @@
-pub mod Peek
 pub mod Run
 pub mod Statuses
 pub mod Streams

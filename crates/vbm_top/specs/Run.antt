@@ -1,5 +1,5 @@
 -- A run of the program: one command in words.
-use Rattle.std.specs.Prelude.{◌≡◌, ℕ, ◌<◌, ◌^◌, ◌⊎◌, true, false, List, [], ◌∷◌, ◌++◌, Ok, Err, IsTrue, if◌then◌else◌, codes, decimal}
+use Rattle.std.specs.Prelude.{◌≡◌, ℕ, ◌<◌, ◌≤◌, ◌^◌, ◌⊎◌, true, false, List, [], ◌∷◌, ◌++◌, length, map, Ok, Err, All, IsTrue, if◌then◌else◌, codes, decimal}
 use Rattle.vbm_ports.specs.Names.{is_medium_name}
 use Rattle.vbm_ports.specs.Files.{Files}
 use Rattle.vbm_ports.specs.Disk.{DiskState, Passes, OnlyReads}
@@ -28,14 +28,16 @@ use Rattle.vbm_engine.specs.Opens.{AreRedone, StandsAlike, SyncsFirst, IsMade, I
 use Rattle.vbm_top.specs.declared.status.Status.{Status}
 use Rattle.vbm_top.specs.declared.status.Status.TheVariants.{Done, Refused, DiskFault, OutputFault, NoMemory, StoreRefused}
 use Rattle.vbm_top.specs.Streams.{Stream, Works, Fails}
-use Rattle.vbm_top.specs.Peek.{Peeked, peeked, answer_of}
+use Rattle.vbm_peek.specs.Peek.{Peeked, peeked, answer_of}
 
 -- ---- words
 
--- The words `peek FILE LBA`: the name of a medium, and a number below 2^64 in decimal, without leading zeros.
-pub record IsPeek (words : Words) (name : List ℕ) (lba : ℕ) : Type 0 where
-  pub spelled : words ≡ codes "peek" ∷ name ∷ decimal lba ∷ []
-  pub medium : IsTrue (is_medium_name name)
+-- The words `peek FILE [FILE ...] LBA`: 1 to 32 names of media, and a number below 2^64 in decimal, without leading zeros.
+pub record IsPeek (words : Words) (names : List (List ℕ)) (lba : ℕ) : Type 0 where
+  pub spelled : words ≡ codes "peek" ∷ (names ++ decimal lba ∷ [])
+  pub some : 1 ≤ length names
+  pub few : length names ≤ 32
+  pub media : All (λ name. IsTrue (is_medium_name name)) names
   pub fits : lba < 2 ^ 64
 
 -- The words `init`, which take the fresh seed, or `init SEED` with an identifier in the hyphenated lower-case form.
@@ -49,7 +51,7 @@ IsScript words = words ≡ codes "script" ∷ []
 
 -- the words are no command of the program
 pub record IsNoForm (words : Words) : Type 0 where
-  pub no_peek : (name : List ℕ) (lba : ℕ) → IsPeek words name lba → ⊥
+  pub no_peek : (names : List (List ℕ)) (lba : ℕ) → IsPeek words names lba → ⊥
   pub no_init : (fresh seed : List ℕ) → IsInit words fresh seed → ⊥
   pub no_script : IsScript words → ⊥
   pub no_command : IsNoCommand words
@@ -177,10 +179,10 @@ SyncsOrFails tells old new status P =
 
 -- ---- a run
 
--- A run of `peek`: it reads alone, and answers what the file holds.
-pub record RunsPeek (tells : Type 0) (name : List ℕ) (lba : ℕ) (old new : DiskState) (sink : Stream) (status : Status) : Type 0 where
+-- A run of `peek`: it reads alone, and answers what the files hold.
+pub record RunsPeek (tells : Type 0) (names : List (List ℕ)) (lba : ℕ) (old new : DiskState) (sink : Stream) (status : Status) : Type 0 where
   pub found : Peeked
-  pub is : tells → found ≡ peeked (old.files name ∷ []) lba
+  pub is : tells → found ≡ peeked (map old.files names) lba
   pub ends : PeekEnds (answer_of found) sink status
   pub reads : OnlyReads tells old new
 

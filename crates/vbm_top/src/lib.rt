@@ -11,5 +11,5 @@ mod serving;
 pub mod status;
 mod words;
 
-pub use peeking::{PeekResult, peek};
 pub use running::run;
+pub use vbm_peek::{PeekResult, peek};

@@ -41,8 +41,8 @@ pub fn run<D: Disk, S: Source, K: Sink>(
     ensures untouched { result ≡ 2 → (disk.new ≡ disk.old) × (sink.new ≡ sink.old) }
 
     // `peek` reads alone, and writes what the files hold.
-    ensures peek { (name : List ℕ) (lba : ℕ) → IsPeek words.now name lba
-        → RunsPeek D.tells name lba (D.state disk.old) (D.state disk.new) (stream K.tells K.written K.faults sink.old sink.new) (status_in result) }
+    ensures peek { (names : List (List ℕ)) (lba : ℕ) → IsPeek words.now names lba
+        → RunsPeek D.tells names lba (D.state disk.old) (D.state disk.new) (stream K.tells K.written K.faults sink.old sink.new) (status_in result) }
 
     // `init` makes a library.
     ensures init { (seed : List ℕ) → IsInit words.now fresh seed
@@ -86,8 +86,8 @@ fn run_words<D: Disk, S: Source, K: Sink>(
     requires { most < 2 ^ 63 }
     ensures words { (result ≡ Status.NoForm) ↔ IsNoForm words.now }
     ensures untouched { result ≡ Status.NoForm → (disk.new ≡ disk.old) × (sink.new ≡ sink.old) }
-    ensures peek { (name : List ℕ) (lba : ℕ) → IsPeek words.now name lba
-        → RunsPeek D.tells name lba (D.state disk.old) (D.state disk.new) (stream K.tells K.written K.faults sink.old sink.new) result }
+    ensures peek { (names : List (List ℕ)) (lba : ℕ) → IsPeek words.now names lba
+        → RunsPeek D.tells names lba (D.state disk.old) (D.state disk.new) (stream K.tells K.written K.faults sink.old sink.new) result }
     ensures init { (seed : List ℕ) → IsInit words.now fresh seed
         → RunsInit D.tells seed (D.state disk.old) (D.state disk.new) (stream K.tells K.written K.faults sink.old sink.new) result }
     ensures command { (c : Command) → IsCommand words.now c
@@ -100,8 +100,8 @@ fn run_words<D: Disk, S: Source, K: Sink>(
     ensures counted { AreCounted (streams (stream S.tells S.rest S.faults source.old source.new)
         (stream K.tells K.written K.faults sink.old sink.new)) result }
 {
-    if let Some((name, lba)) = peek_words(words) {
-        return do_peek(alloc, disk, sink, name, lba);
+    if let Some((files, lba)) = peek_words(words) {
+        return do_peek(alloc, disk, sink, files, lba);
     }
     if let Some(seed) = init_words(words, fresh) {
         return do_init(alloc, disk, sink, seed);

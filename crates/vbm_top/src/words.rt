@@ -1,12 +1,14 @@
 //! The words of the program.
 
-ghost use Rattle.std.specs.Prelude.{◌≡◌, ℕ, List, MatchOption, IsTrue, ◌↔◌};
+ghost use Rattle.std.specs.Prelude.{◌≡◌, ◌≤◌, ℕ, List, length, MatchOption, All, IsTrue, ◌↔◌};
+ghost use Rattle.vbm_ports.specs.Names.{is_medium_name};
 ghost use Rattle.vbm_world.specs.Texts.{id_text};
 ghost use Rattle.vbm_top.specs.Run.{IsPeek, IsInit, IsScript};
 ghost use Rattle.vbm_ids.specs.Identifier.{IsSeed};
 
 use uuid::Uuid;
 use vbm_lines::decimal;
+use vbm_peek::MOST_FILES;
 use vbm_ports::{Text, names_medium};
 
 fn is_text(word: &[u8], text: &[u8]) -> bool
@@ -15,25 +17,32 @@ fn is_text(word: &[u8], text: &[u8]) -> bool
     word == text
 }
 
-/// The file and the sector of the words `peek FILE LBA`.
-pub(crate) fn peek_words(words: &[Text]) -> Option<(&[u8], u64)>
-    ensures { MatchOption result ((name : List ℕ) (lba : ℕ) → IsPeek words.now name lba
+/// Whether words are names of 1 to 32 media.
+fn are_files(words: &[Text]) -> bool
+    ensures { IsTrue result
+        ↔ ((1 ≤ length words.now) × (length words.now ≤ 32) × All (λ name. IsTrue (is_medium_name name)) words.now) }
+{
+    !words.is_empty()
+        && words.len() <= MOST_FILES
+        && words.iter().all(|word| names_medium(word.bytes()))
+}
+
+/// The files, base first, and the sector of the words `peek FILE [FILE ...] LBA`.
+pub(crate) fn peek_words(words: &[Text]) -> Option<(&[Text], u64)>
+    ensures { MatchOption result ((names : List (List ℕ)) (lba : ℕ) → IsPeek words.now names lba
         → ⊥) (λ form. IsPeek words.now form.0.now form.1) }
 {
-    match words {
-        [verb, file, lba] => {
-            if !is_text(verb.bytes(), b"peek") {
-                return None;
-            }
-            let name = file.bytes();
-            if !names_medium(name) {
-                return None;
-            }
-            let lba = decimal(lba.bytes())?;
-            Some((name, lba))
-        }
-        _ => None,
+    let [verb, files @ .., lba] = words else {
+        return None;
+    };
+    if !is_text(verb.bytes(), b"peek") {
+        return None;
     }
+    if !are_files(files) {
+        return None;
+    }
+    let lba = decimal(lba.bytes())?;
+    Some((files, lba))
 }
 
 /// Whether a word is the hyphenated lower-case form of an identifier's bytes.

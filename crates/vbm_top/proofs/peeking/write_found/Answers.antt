@@ -1,6 +1,6 @@
 use Rattle.std.proofs.Common.{◌≡◌, Err, sym, subst}
 use Rattle.vbm_world.specs.declared.command.Answer.TheVariants.{Refused}
-use Rattle.vbm_top.specs.Peek.{answer_of}
+use Rattle.vbm_peek.specs.Peek.{answer_of}
 use Rattle.vbm_top.specs.Streams.{stream}
 use Rattle.vbm_top.specs.Run.{PeekEnds}
 use Rattle.vbm_top.proofs.Lines.{peek_says}

@@ -1,6 +1,6 @@
-use Rattle.std.proofs.Common.{[], ◌∷◌, refl, ap, sym, subst, ◌∙◌}
+use Rattle.std.proofs.Common.{map, refl, ap, sym, subst, ◌∙◌}
 use Rattle.vbm_served.proofs.Commands.{one_command}
-use Rattle.vbm_top.specs.Peek.{peeked, answer_of}
+use Rattle.vbm_peek.specs.Peek.{peeked, answer_of}
 use Rattle.vbm_top.specs.Streams.{stream, streams}
 use Rattle.vbm_top.specs.Run.{RunsInit, RunsCommand}
 use Rattle.vbm_top.proofs.Counted.{peek_counts, init_counts, command_counts, script_counts}
@@ -8,13 +8,13 @@ use Rattle.vbm_top.proofs.Forms.{one_peek, one_init}
 use Rattle.vbm_top.proofs.running.run_words.Goals as goal
 
 pub returns-in-Some-clause-peek : goal.returns-in-Some-clause-peek
-returns-in-Some-clause-peek g c = λ name lba spelled.
+returns-in-Some-clause-peek g c = λ names lba spelled.
     let files = (g.D.Disk.state c.args.disk.now).files in
-    let same = one_peek c.args.words.now name c.in-Some.name.now lba c.in-Some.lba spelled c.in-Some.ensures in
+    let same = one_peek c.args.words.now names c.in-Some.files.now lba c.in-Some.lba spelled c.in-Some.ensures in
     let ends = c.do_peek.ensures.ends in
     record {
       found = ends.0;
-      is = λ told. ends.1 told ∙ ap (λ n. peeked (files n ∷ []) c.in-Some.lba) (sym same.0) ∙ ap (λ i. peeked (files name ∷ []) i) (sym same.1);
+      is = λ told. ends.1 told ∙ ap (λ ns. peeked (map files ns) c.in-Some.lba) (sym same.0) ∙ ap (λ i. peeked (map files names) i) (sym same.1);
       ends = ends.2;
       reads = c.do_peek.ensures.reads;
     }

@@ -10,8 +10,8 @@ use Rattle.vbm_world.specs.declared.command.Refusal.{Refusal}
 use Rattle.vbm_world.specs.declared.command.Refusal.TheVariants.{NoSuchFile, NotAnImage, OutOfRange, BrokenChain}
 use Rattle.vbm_world.specs.declared.command.Answer.{Answer}
 use Rattle.vbm_world.specs.declared.command.Answer.TheVariants.{Sectors, Refused as RefusedWith}
-use Rattle.vbm_top.specs.declared.peeking.PeekResult.{PeekResult}
-use Rattle.vbm_top.specs.declared.peeking.PeekResult.TheVariants.{Sector, Refused, Failed, NoMemory}
+use Rattle.vbm_peek.specs.declared.peeking.PeekResult.{PeekResult}
+use Rattle.vbm_peek.specs.declared.peeking.PeekResult.TheVariants.{Sector, Refused, Failed, NoMemory}
 
 -- the bytes of a sector, or a refusal
 abbrev pub Peeked : Type 0
@@ -49,6 +49,11 @@ sector_of_files (Some fs) lba = sector_of_links (links_of fs) lba
 -- capacity of the last, or the files are no chain.
 abbrev pub peeked : List (Option (List ℕ)) → ℕ → Peeked
 peeked files lba = sector_of_files (all_there files) lba
+
+-- a refusal, unless a file is not there, which is refused before it
+abbrev pub unless_missing : Option (List (List ℕ)) → Refusal → Peeked
+unless_missing None refusal = Err NoSuchFile
+unless_missing (Some fs) refusal = Err refusal
 
 -- a result tells the answer; a device fault and want of memory tell nothing of it
 abbrev pub Tells : PeekResult → Peeked → Type 0
