@@ -1,5 +1,6 @@
 pub mod Image
 pub mod Images
+pub mod Lending
 pub mod Opened
 pub mod InnerName
 pub mod Creating

@@ -23,6 +23,9 @@ impl Model for Images {
 }
 
 impl Images {
+    ghost use Rattle.std.specs.Borrow.{sem};
+    ghost use Rattle.vbm_image.specs.Lending.{LendsImage};
+
     /// No images. It takes no memory.
     pub fn new(alloc: Global) -> Images
         ensures { result.items ≡ [] }
@@ -45,6 +48,15 @@ impl Images {
         ensures { slice_get self.now.items i ≡ Some result.now }
     {
         &self.items[i]
+    }
+
+    /// Lends the image at a place, to be edited there.
+    pub fn get_mut(&mut self, i: usize) -> &mut Image
+        requires { i < length self.old.items }
+        ensures* edits { sem 𝓛 (LendsImage self.entry i result) }
+        ensures value { slice_get self.old.items i ≡ Some result.now }
+    {
+        &mut self.items[i]
     }
 
     /// Lends all images.

@@ -1,6 +1,6 @@
 //! Blocks that are staged.
 
-ghost use Rattle.std.specs.Prelude.{◌≡◌, ◌+◌, ◌^◌, ◌≤◌, ◌<◌, ℕ, length, true, false, Some, None, OnOk, is_err};
+ghost use Rattle.std.specs.Prelude.{◌≡◌, ◌+◌, ◌^◌, ◌≤◌, ◌<◌, ℕ, length, true, false, Some, None, OnOk, OnErr, is_err};
 ghost use Rattle.vbm_ports.specs.Counts.{counted, IsCounted};
 ghost use Rattle.vbm_ports.specs.Disk.{OnlyReads};
 ghost use Rattle.vbm_volume.specs.Marks.{is_marked};
@@ -64,6 +64,7 @@ pub fn stage_block<D: Disk>(
     ensures spare { image.old.pending.spare ≤ image.new.pending.spare + 1 }
     ensures left { left_in image.old.used ≤ left_in image.new.used + 1 }
     ensures staged { OnOk result (StagesEntry image.old image.new block) }
+    ensures stay { OnErr result (image.new.pending ≡ image.old.pending) }
     ensures ok { D.tells → OnOk result (StagesBlock image.old image.new block bytes.now (D.state disk.old).files (D.state disk.new).files) }
     ensures fits { D.tells → OnOk result (FitsIn (D.state disk.new).files image.new) }
     ensures wrote { D.tells → Wrote image.old.name image.old.header (file_in (D.state disk.old).files image.old) (λ i. false)

@@ -1,0 +1,15 @@
+pub mod EditedImages
+pub mod StagedCounts
+pub mod EditedChains
+pub mod ServedSectors
+pub mod ServedRuns
+pub mod FoundEntries
+pub mod WrittenParts
+pub mod EditedFiles
+pub mod JoinedRuns
+pub mod SettlingAll
+pub mod TakenImages
+pub mod SettledFlush
+pub mod RoomedImages
+pub mod RoomThenWrite
+pub mod WriteThenSettle
