@@ -1,14 +1,12 @@
 //! Files that are opened one after another.
 
-ghost use Rattle.std.specs.Prelude.{◌≡◌, ◌≢◌, ◌<◌, ◌≤◌, ◌+◌, ◌^◌, ℕ, List, [], ◌∷◌, ◌++◌, length, slice_get, Option, Some, None, Ok, Err, IfOk, IfErr, OnOk, MatchOption, IsTrue, All, is_err};
+ghost use Rattle.std.specs.Prelude.{◌≡◌, ◌≢◌, ◌<◌, ◌≤◌, ◌+◌, ◌^◌, [], ◌∷◌, ◌++◌, length, slice_get, IfOk, IfErr, OnOk, MatchOption, IsTrue, All, is_err};
 ghost use Rattle.vbm_ports.specs.Counts.{IsCounted};
 ghost use Rattle.vbm_ports.specs.Disk.{OnlyReads};
 ghost use Rattle.vbm_ports.specs.Files.{Files};
 ghost use Rattle.vbm_ports.specs.Names.{is_medium_name};
 ghost use Rattle.vbm_volume.specs.Chain.{broken_at, chain_count, chain_sector};
 ghost use Rattle.vbm_image.specs.declared.image.Image.{Image};
-ghost use Rattle.vbm_image.specs.Image.{IsInForm};
-ghost use Rattle.vbm_image.specs.Opened.{IsFresh};
 ghost use Rattle.vbm_peek.specs.Opened.{opened_names, opened_links, AreOpened, AreOpenedFrom, AddsFile, IsFaultOf, open_failed};
 
 use std::alloc::Global;

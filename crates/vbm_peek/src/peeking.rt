@@ -1,6 +1,6 @@
 //! One sector of the disk that files hold.
 
-ghost use Rattle.std.specs.Prelude.{◌≡◌, ◌<◌, ◌≤◌, ◌^◌, ℕ, length, map, All, IsTrue, Err};
+ghost use Rattle.std.specs.Prelude.{◌≤◌, length, map, All, IsTrue};
 ghost use Rattle.vbm_header.specs.Header.{condition_number};
 ghost use Rattle.vbm_ports.specs.Counts.{IsCounted};
 ghost use Rattle.vbm_ports.specs.Disk.{OnlyReads};
@@ -32,8 +32,9 @@ pub enum PeekResult {
     NoMemory,
 }
 
-/// A sector of the disk that files hold, base first. It is refused where a file is not there, then where one is no image, where
-/// the sector is past the capacity of the last, and where the files are no chain. A name may stand more than once.
+/// Sector `lba`, of 512 bytes, of the disk that files hold, base first. It is refused where a file is not there (08), then where
+/// one is no image (09), where the sector is past the capacity of the last (20), and where the files are no chain (28). A name may
+/// stand more than once.
 pub fn peek<D: Disk>(alloc: Global, disk: &mut D, files: &Names, lba: u64) -> PeekResult
     requires some { 1 ≤ length files.now }
     requires few { length files.now ≤ 32 }
