@@ -7,7 +7,7 @@ mod slots;
 mod snapshots;
 
 pub use holders::holders_of;
-pub use renumbering::{Renumbering, renumbered};
+pub use renumbering::{Renumbering, place_for, renumbered};
 pub use slots::{attach, detach, numbers_to_reset, reset};
 pub use snapshots::{dependents, numbers_to_restore, numbers_to_take, remove, restore_to, take};
 use std::alloc::Global;

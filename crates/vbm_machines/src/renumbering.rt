@@ -1,6 +1,6 @@
 //! New places where a list gets an item or loses one, and machines by a list of media that did.
 
-ghost use Rattle.std.specs.Prelude.{◌≡◌, ◌<◌, ◌^◌, ◌-◌, List, map, slice_get, IfSome, IfOk, IsFalse};
+ghost use Rattle.std.specs.Prelude.{◌≡◌, ◌<◌, ◌≤◌, ◌^◌, ◌-◌, List, length, map, slice_get, IfSome, IfOk, IsFalse};
 ghost use Rattle.std.specs.List.{AllByRecursion};
 ghost use Rattle.vbm_named.specs.Names.{Name, Rises};
 ghost use Rattle.vbm_named.specs.Places.{place_for};
@@ -74,9 +74,10 @@ impl Renumbering {
     }
 }
 
-// The place among rising names where an item of this name comes in.
-pub(crate) fn place_for<T: Named>(items: &[T], name: &[u8]) -> usize
-    ensures { result ≡ place_for T.name_of name.now items.now }
+/// The place among rising names where an item of this name comes in.
+pub fn place_for<T: Named>(items: &[T], name: &[u8]) -> usize
+    ensures place { result ≡ place_for T.name_of name.now items.now }
+    ensures within { result ≤ length items.now }
 {
     let mut place = 0;
     let mut rest = items;

@@ -54,7 +54,7 @@ module _ (images : ListedImages) (m : NamedMachine) where
         m.snapshots is.snapshots under.snapshots;
   }
 
-  machine_itself : IsMachine images m → IsNamedMachine images m
+  pub machine_itself : IsMachine images m → IsNamedMachine images m
   machine_itself is = record {
     name = is.name;
     tree = is.tree;
@@ -85,7 +85,7 @@ same_off l same =
     subst AllOff (ap (λ (k : Library). k.machines) same)
     (All-of_map entry_off (λ (m : Machine). m.running ≡ false) l.machines (All-every _ (λ m. refl) l.machines))
 
-media_full : (media : List Medium) → AllByRecursion (λ (m : Medium). IsTrue (is_medium_name m.name)) media
+pub media_full : (media : List Medium) → AllByRecursion (λ (m : Medium). IsTrue (is_medium_name m.name)) media
     → AllByRecursion (λ (m : Medium). NotEmpty m.name) media
 media_full media each = All-map _ _ (λ m name. (medium_name_fits m.name name).0) media each
 
@@ -308,7 +308,7 @@ rules_decoded built l is same parts = rules_decoded_off built l is (same_off l s
 
 -- ---- machines that run, which no file tells
 
-named_off : (l : Library) → named (library_off l) ≡ named l
+pub named_off : (l : Library) → named (library_off l) ≡ named l
 named_off l =
     let same = map-map (machine_named (medium_names l.media)) entry_off l.machines in
     λ i. record {

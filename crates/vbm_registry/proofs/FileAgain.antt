@@ -92,7 +92,7 @@ module _ (built : Features) (keeps : Library → Bool) where
   machines_off [] rest = refl
   machines_off (m ∷ ms) rest = ap (machine_onto m) (machines_off ms rest)
 
-  spelled_off : (l : Library) → spelling (library_off l) ≡ spelling l
+  pub spelled_off : (l : Library) → spelling (library_off l) ≡ spelling l
   unfolding spelling
   spelled_off l =
       rw (length-map l.machines entry_off, machines_off l.machines (list_onto w8 name_onto (list_of l.making) (list_onto w8 merging_onto l.merging [])))

@@ -26,6 +26,7 @@ pub mod SlotsNamed
 pub mod TreesListed
 pub mod MachinesNamed
 pub mod DecodedRules
+pub mod LowPlaces
 pub mod Counts
 pub mod InnerCounts
 pub mod NamedPlaces

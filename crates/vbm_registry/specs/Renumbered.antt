@@ -1,11 +1,13 @@
 -- Edits of a library's lists. Where a medium enters or leaves, every place behind it is renumbered, wherever one is named.
-use Rattle.std.specs.Prelude.{ℕ, ◌==◌, ◌||◌, not, Bool, List, [], ◌∷◌, ◌++◌, map, filter}
-use Rattle.std.specs.List.{list_any, position_or_len}
+use Rattle.std.specs.Prelude.{ℕ, ◌<◌, ◌-◌, ◌^◌, ◌==◌, ◌||◌, not, Bool, List, [], ◌∷◌, ◌++◌, map, filter}
+use Rattle.std.specs.List.{AllByRecursion, list_any, position_or_len}
 use Rattle.vbm_machines.specs.declared.Slot.{Slot}
 use Rattle.vbm_machines.specs.declared.Snapshot.{Snapshot}
 use Rattle.vbm_machines.specs.declared.Machine.{Machine}
 use Rattle.vbm_modes.specs.declared.Mode.{Mode}
-use Rattle.vbm_named.specs.Names.{Name, is_named, put_by, without, change_by}
+use Rattle.vbm_machines.specs.Renumbering.{name_of_machine, EachSlot, IsLow}
+use Rattle.vbm_machines.specs.Snapshots.{name_of_snapshot}
+use Rattle.vbm_named.specs.Names.{Name, Rises, is_named, put_by, without, change_by}
 use Rattle.vbm_named.specs.Places.{shifted, closed_up, place_for}
 use Rattle.vbm_registry.specs.declared.media.Medium.{Medium}
 use Rattle.vbm_registry.specs.declared.library.Inner.{Inner}
@@ -43,6 +45,19 @@ library_moved to l = record l {
   machines = map (machine_moved to) l.machines;
   merging = map (merging_moved to) l.merging;
 }
+
+-- a place of a medium can be raised by one
+abbrev pub IsLowRef : ImageRef → Type 0
+IsLowRef (refs.Medium place) = place < 2 ^ 32 - 1
+IsLowRef (refs.Inner n) = Unit {0}
+
+-- The places of media can be raised by one, and machines and their snapshots are in the order of their names.
+pub record HasLowPlaces (l : Library) : Type 0 where
+  pub machines : Rises name_of_machine l.machines
+  pub snapshots : AllByRecursion (λ (m : Machine). Rises name_of_snapshot m.snapshots) l.machines
+  pub slots : AllByRecursion (EachSlot IsLow) l.machines
+  pub inners : AllByRecursion (λ (x : Inner). IsLowRef x.parent) l.inners
+  pub mergings : AllByRecursion (λ (j : Merging). IsLowRef j.parent) l.merging
 
 -- ---- media
 

@@ -16,6 +16,7 @@ mod media;
 mod medium_entries;
 mod parents;
 mod places;
+mod renumbered;
 mod slot_entries;
 mod snapshot_entries;
 mod stacking;

@@ -1,13 +1,17 @@
 //! What a library lists.
 
-ghost use Rattle.std.specs.Prelude.{◌≡◌, IfOk, IsFalse};
+ghost use Rattle.std.specs.Prelude.{◌≡◌, ◌≤◌, length, IfOk, IsFalse};
 ghost use Rattle.vbm_named.specs.Names.{has_name};
-ghost use Rattle.vbm_registry.specs.Library.{IsPlain, medium_entry_name, with_entry, without_entry};
+ghost use Rattle.vbm_registry.specs.Library.{medium_entry_name};
+ghost use Rattle.vbm_registry.specs.Named.{named};
+ghost use Rattle.vbm_registry.specs.Rules.{IsLibrary};
+ghost use Rattle.vbm_registry.specs.Renumbered.{medium_place, with_medium_entry, without_medium_entry};
 
-use crate::media::{Media, Medium};
+use crate::media::{Media, Medium, place_of};
+use crate::renumbered::moved;
 use std::alloc::Global;
 use uuid::Uuid;
-use vbm_machines::Machines;
+use vbm_machines::{Machines, Renumbering, place_for};
 use vbm_ports::{Copied, NoMemory, Sequence, Text};
 
 /// No library's file is longer, in bytes.
@@ -88,22 +92,33 @@ impl Copied for Library {
 }
 
 impl Library {
-    /// A copy with one more medium, in its place.
-    pub fn with_medium(&self, alloc: Global, medium: Medium) -> Result<Library, NoMemory>
-        requires sound { IsPlain self.now }
-        requires another { IsFalse (has_name medium_entry_name medium.name self.now.media) }
-        ensures { IfOk result (λ l. l ≡ with_entry self.now medium) }
+    /// The place of the medium of a name, or the number of media where none has it.
+    pub fn place_of(&self, name: &[u8]) -> usize
+        ensures place { result ≡ medium_place self.now name.now }
+        ensures within { result ≤ length self.now.media }
     {
-        let mut library = self.copied(alloc)?;
+        place_of(self.media.as_slice(), name)
+    }
+
+    /// A copy with one more medium, in its place. The places behind it are one higher, wherever they are named.
+    pub fn with_medium(&self, alloc: Global, medium: Medium) -> Result<Library, NoMemory>
+        requires rules { IsLibrary (named self.now) }
+        requires another { IsFalse (has_name medium_entry_name medium.name self.now.media) }
+        ensures { IfOk result (λ l. l ≡ with_medium_entry self.now medium) }
+    {
+        let at = place_for(self.media.as_slice(), medium.name.bytes());
+        let mut library = moved(alloc, Renumbering::Entered(at as u32), self)?;
         library.media.insert(medium)?;
         Ok(library)
     }
 
-    /// A copy without the medium of a name.
+    /// A copy without the medium of a name, which nothing names. The places behind it are one lower, wherever they are named.
     pub fn without_medium(&self, alloc: Global, name: &[u8]) -> Result<Library, NoMemory>
-        ensures { IfOk result (λ l. l ≡ without_entry self.now name.now) }
+        requires rules { IsLibrary (named self.now) }
+        ensures { IfOk result (λ l. l ≡ without_medium_entry self.now name.now) }
     {
-        let mut library = self.copied(alloc)?;
+        let at = self.place_of(name);
+        let mut library = moved(alloc, Renumbering::Left(at as u32), self)?;
         library.media.remove(name);
         Ok(library)
     }

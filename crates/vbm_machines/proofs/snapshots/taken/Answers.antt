@@ -12,7 +12,7 @@ use Rattle.vbm_machines.proofs.snapshots.taken.Goals as goal
 pub overflow_cast-at : goal.overflow_cast-at
 overflow_cast-at c =
     let at : c.place_for-at.result ≡ place_for name_of_snapshot c.args.name c.args.machine.now.snapshots =
-    rw (c.place_for-at.ensures, c.bytes.ensures, c.as_slice-3.ensures) refl in
+    rw (c.place_for-at.ensures.place, c.bytes.ensures, c.as_slice-3.ensures) refl in
     let low = place_within name_of_snapshot c.args.name c.args.machine.now.snapshots in
     let room = c.requires.room in
     omega arith
@@ -39,7 +39,7 @@ insert-requires-clause-another c =
 pub returns : goal.returns
 returns c =
     let at : c.place_for-at.result ≡ place_for name_of_snapshot c.args.name c.args.machine.now.snapshots =
-    rw (c.place_for-at.ensures, c.bytes.ensures, c.as_slice-3.ensures) refl in
+    rw (c.place_for-at.ensures.place, c.bytes.ensures, c.as_slice-3.ensures) refl in
     rw (
       c.in_ok-copied.ensures,
       c.in_ok-slots.ensures,
