@@ -9,37 +9,53 @@ use Rattle.vbm_ids.specs.Identifier.{IsSeed}
 use Rattle.vbm_intent.specs.declared.change.Change.{Change}
 use Rattle.vbm_intent.specs.Changes.{log_name}
 use Rattle.vbm_intent.specs.Log.{closed, SameBesidesLog, RedoesTo, IsBeforeOrAfter, before as start, done, IsLikeRedone, redo_has_one_result}
-use Rattle.vbm_registry.specs.Library.{library_name, IsPlain}
-use Rattle.vbm_registry.specs.Spelling.{spelling}
-use Rattle.vbm_registry.specs.declared.features.TheConstants.{BUILT}
-use Rattle.vbm_registry.specs.Grammar.{library_in}
-use Rattle.vbm_registry.specs.PlaceRules.{keeps_places}
-use Rattle.vbm_standing.specs.Meaning.{none_changed}
+use Rattle.vbm_registry.specs.Library.{library_name}
+use Rattle.vbm_registry.specs.Named.{named}
+use Rattle.vbm_standing.specs.Meaning.{none_changed, none_runs}
 use Rattle.vbm_standing.specs.Stands.{library_of, library_file, read_library, held_by, Stands, redone}
-use Rattle.vbm_registry.proofs.PlainReads.{read_plain}
 use Rattle.vbm_standing.specs.EditedFiles.{SameMediumFiles}
-use Rattle.vbm_standing.proofs.Stores.{held_if_store, world_frame, medium_not_log, library_not_log, no_redo, not_open}
+use Rattle.vbm_standing.proofs.MachineWorlds.{world-frame}
+use Rattle.vbm_standing.proofs.Stores.{held_if_store, medium_not_log, library_not_log, no_redo, not_open}
 use Rattle.vbm_engine.specs.declared.engine.Made.{Made}
 use Rattle.vbm_engine.specs.declared.engine.Made.TheVariants as made
 use Rattle.vbm_engine.specs.Opens.{empty_library, new_world, StandsNew, Makes}
 use Rattle.vbm_engine.specs.Recovers.{IsSettled}
 use Rattle.vbm_engine.specs.Inits.{IsNewPlan, with_library, MakesOver, IsOver, before, during}
-use Rattle.vbm_store.proofs.Planned.{library_made, library_frame}
+use Rattle.vbm_store.specs.Serves.{IsWritable}
+use Rattle.vbm_store.proofs.Planned.{written_again, library_made, library_frame}
 use Rattle.vbm_store.proofs.Decisions.{medium_not_library}
 
--- an empty library has normal media alone
-pub empty_rules : (seed : List ℕ) → IsSeed seed → IsPlain (empty_library seed)
-empty_rules seed is = record {
-  seed = is;
-  next = omega arith;
-  inner = omega arith;
-  count = omega arith;
-  rises = tt;
-  media = tt;
-  inners = refl;
-  machines = refl;
-  making = refl;
-  merging = refl;
+-- an empty library keeps the rules
+pub empty_writable : (seed : List ℕ) → IsSeed seed → IsWritable (empty_library seed)
+empty_writable seed is = record {
+  rules = record {
+    seed = is;
+    next = omega arith;
+    inner = omega arith;
+    few_media = omega arith;
+    few_machines = omega arith;
+    few_snapshots = omega arith;
+    few_places = omega arith;
+    few_mergings = omega arith;
+    media_rise = tt;
+    media = tt;
+    inners = tt;
+    machines_rise = tt;
+    machines = tt;
+    making = tt;
+    held = tt;
+    based = tt;
+    merging = tt;
+    drawn = tt;
+  };
+  built = record {
+    modes = tt;
+    inners = λ off. refl;
+    machines = λ off. refl;
+    each = tt;
+    making = λ off. refl;
+    merging = λ off. refl;
+  };
 }
 
 -- ---- the commit
@@ -48,14 +64,14 @@ module _ (seed : List ℕ) (old : DiskState) where
   pub commit_over : (new : DiskState) (plan : List Change) → IsNewPlan seed plan → Passes old new (IsBeforeOrAfter plan old.files old.may_leave)
       → Passes old new (IsOver seed old)
   commit_over new plan is passes = Passes-weaker old new _ _ passes
-      (λ image now. during is.again (subst (λ cs. IsBeforeOrAfter cs old.files old.may_leave image) is.changes now))
+      (λ image now. during is.is_seed (subst (λ cs. IsBeforeOrAfter cs old.files old.may_leave image) is.changes now))
 
   -- a read before it
   module _ {tells : Type 0} (told : tells) (mid : DiskState) (reads : OnlyReads tells old mid) where
     read_over : (image : Files) → IsOver seed mid image → IsOver seed old image
     read_over image (before now) = before (reads.images image now)
-    read_over image (during again (start from was to)) = during again (start from (reads.images from was) to)
-    read_over image (during again (done to)) = during again (done (subst (λ f. RedoesTo (with_library seed f) image) (reads.files told) to))
+    read_over image (during seeded (start from was to)) = during seeded (start from (reads.images from was) to)
+    read_over image (during seeded (done to)) = during seeded (done (subst (λ f. RedoesTo (with_library seed f) image) (reads.files told) to))
 
     pub over_after_read : (new : DiskState) → Passes mid new (IsOver seed mid) → Passes old new (IsOver seed old)
     over_after_read new passes = Passes-trans old mid new old.may_leave (IsOver seed mid) (IsOver seed old) reads.time passes (λ image now. before now) read_over
@@ -81,33 +97,35 @@ module _ (seed : List ℕ) (old mid : DiskState) (to : RedoesTo mid.files old.fi
     same = λ name other. ap (λ (f : Files). f name) (settled.only image now);
   })
 
-  module _ (again : library_in BUILT keeps_places (spelling (empty_library seed)) ≡ Ok (empty_library seed)) where
+  module _ (seeded : IsSeed seed) where
     -- files that are those of now with the library
     held_new : (files : Files) → SameBesidesLog files (with_library seed mid.files) → held_by files ≡ Ok (new_world seed to.result)
     held_new files same =
         let read : library_of files ≡ Ok (empty_library seed) =
-        ap library_file (same library_name library_not_log ∙ library_made [] (empty_library seed) mid.files refl) ∙ ap read_library again in
+        ap library_file (same library_name library_not_log ∙ library_made [] (empty_library seed) mid.files refl)
+        ∙ ap read_library (written_again (empty_library seed) (empty_writable seed seeded)) in
         let all : SameMediumFiles to.result files = λ name named.
         same name (medium_not_log name named) ∙ library_frame [] (empty_library seed) mid.files name (medium_not_library name named)
         ∙ sym (to.same name (medium_not_log name named)) in
         held_if_store (empty_library seed) files read (record { media = tt; distinct = tt; inners = tt })
-        ∙ ap Ok (world_frame to.result files all none_changed (empty_library seed) (read_plain keeps_places _ (empty_library seed) again))
+        ∙ ap Ok (world-frame none_changed none_runs (named (empty_library seed)) to.result files (empty_writable seed seeded).rules
+        (record { media = all; inners = tt }))
 
     stands_new : (image : Files) → RedoesTo (with_library seed mid.files) image → Stands image (Ok (new_world seed to.result))
     stands_new image done_to = redone done_to.result done_to.redo (held_new done_to.result done_to.same)
 
   pub over_redone : (image : Files) → IsOver seed mid image → IsLikeRedone old.files image ⊎ StandsNew seed old.files image
   over_redone image (before now) = inl (now_alike image now)
-  over_redone image (during again (start from was done_to)) =
+  over_redone image (during seeded (start from was done_to)) =
       inl (redone_alike image (subst (λ f. RedoesTo f image) (settled.only from was) done_to))
-  over_redone image (during again (done done_to)) = inr (to.result, to.redo, stands_new again image done_to)
+  over_redone image (during seeded (done done_to)) = inr (to.result, to.redo, stands_new seeded image done_to)
 
   pub makes : (new : DiskState) (result : Made) → new.may_leave new.files → MakesOver seed mid new result → Makes seed old new result
   makes new made.Done now written = record {
     redone = to.result;
     redo = to.redo;
     absent = to.same library_name library_not_log ∙ written.absent;
-    stands = stands_new written.again new.files (record {
+    stands = stands_new written.is_seed new.files (record {
       result = new.files;
       redo = closed (not_open (new.files log_name) (written.settled.shut new.files now)) refl;
       same = written.same;

@@ -1,12 +1,14 @@
 -- Opening a store.
-use Rattle.std.proofs.Common.{◌≡◌, ◌≢◌, ◌⊎◌, ℕ, ◌+◌, ◌^◌, ◌<◌, ◌≤◌, min, Bool, true, false, cond, List, [], ◌∷◌, ◌++◌, map, length, take, drop, get_or, Option, Some, None, Result, Ok, Err, refl, sym, ap, subst, ◌∙◌, arith, inl, inr, ⊎_elim, length-take}
-use Rattle.std.specs.Prelude.{nat_eq, ◌||◌}
+use Rattle.std.proofs.Common.{◌≡◌, ◌≢◌, ◌⊎◌, ℕ, ◌+◌, ◌<◌, ◌≤◌, min, Bool, true, false, cond, List, [], ◌∷◌, ◌++◌, map, length, take, drop, get_or, Option, Some, None, Result, Ok, Err, refl, sym, ap, subst, ◌∙◌, arith, inl, inr, ⊎_elim, length-take, IsTrue}
+use Rattle.std.specs.Prelude.{nat_eq, ◌||◌, ◌&&◌}
 use Rattle.std.specs.List.{starts_with, list_any}
 use Rattle.std.specs.Str.{bytes_eq}
 use Rattle.std.proofs.lemmas.Bool.{cases_lt, lt-ltb}
-use Rattle.std.proofs.lemmas.List.{take_all, drop_all, take-take, take-append-le, drop_more, map_push, map_more}
+use Rattle.std.proofs.lemmas.Option.{get_or_from_slice_get}
+use Rattle.std.proofs.lemmas.List.{append-nil, take_all, drop_all, take-take, take-append-le, drop_more, map_push, map_more}
 use Rattle.vbm_ports.specs.Files.{Files, bytes_of, Reads}
 use Rattle.vbm_ports.specs.Crash.{Only}
+use Rattle.vbm_ports.specs.Names.{is_medium_name, IsStoreName}
 use Rattle.vbm_ports.specs.Disk.{DiskState, Passes, OnlyReads, IsCoherent}
 use Rattle.vbm_ports.proofs.States.{Passes-trans, Passes-weaker}
 use Rattle.vbm_intent.specs.Changes.{log_name}
@@ -14,42 +16,52 @@ use Rattle.vbm_intent.specs.Log.{IsOpen, IsShut, IsShutInAll, closed, SameBeside
 use Rattle.vbm_header.specs.declared.Header.{Header}
 use Rattle.vbm_header.specs.Header.{fields}
 use Rattle.vbm_volume.proofs.Likes.{image_fields}
-use Rattle.vbm_named.specs.Names.{Name}
+use Rattle.vbm_machines.specs.declared.Machine.{Machine}
+use Rattle.vbm_machines.specs.Renumbering.{itself}
+use Rattle.vbm_named.specs.Names.{Name, has_name}
 use Rattle.vbm_world.specs.World.{World}
 use Rattle.vbm_world.specs.Loose.{Unsettled}
-use Rattle.vbm_named.proofs.Lists.{name_sym}
+use Rattle.vbm_named.proofs.Lists.{name_sym, All-get, All-every, any_none, any_map}
 use Rattle.vbm_registry.specs.declared.media.Medium.{Medium}
 use Rattle.vbm_registry.specs.declared.library.Library.{Library}
 use Rattle.vbm_registry.specs.declared.fault.BadStore.{BadStore}
 use Rattle.vbm_registry.specs.declared.fault.BadStore.TheVariants.{SameId}
-use Rattle.vbm_registry.specs.Library.{library_name, medium_entry_name, IsPlain}
+use Rattle.vbm_registry.specs.Library.{library_name, medium_entry_name}
 use Rattle.vbm_registry.specs.Spelling.{head}
-use Rattle.vbm_registry.specs.Named.{NamedLibrary, named}
+use Rattle.vbm_registry.specs.declared.library.Inner.{Inner}
+use Rattle.vbm_registry.specs.Named.{NamedInner, NamedLibrary, medium_names, inner_named, named}
+use Rattle.vbm_registry.specs.Rules.{IsLibrary}
+use Rattle.vbm_registry.proofs.NamesAtPlaces.{item_at}
+use Rattle.vbm_registry.proofs.DecodedRules.{off_same, decoded_rules}
 use Rattle.vbm_registry.specs.declared.features.TheConstants.{BUILT}
-use Rattle.vbm_registry.specs.Grammar.{library_in}
+use Rattle.vbm_registry.specs.Grammar.{library_in, IsDecoded, entry_off, library_off}
 use Rattle.vbm_registry.specs.PlaceRules.{keeps_places}
+use Rattle.vbm_standing.specs.ChainDisks.{inner_file}
 use Rattle.vbm_standing.specs.Headers.{header_in}
+use Rattle.vbm_standing.specs.Meaning.{none_runs, world_of}
 use Rattle.vbm_standing.specs.Faults.{medium_header_fault, image_fault, file_fault, medium_fault, id_in, first_fault, same_id_fault, media_fault}
 use Rattle.vbm_standing.specs.Stands.{library_file, library_of, read_library, held_by, Stands, redone, bad_log}
 use Rattle.vbm_standing.proofs.FaultFacts.{store_if_no_fault}
 use Rattle.vbm_standing.proofs.PlainStores.{fault_plain}
-use Rattle.vbm_standing.proofs.Stores.{held_if_store, library_is, library_not_log, stands_redone, stands_alike, stands_once, stands_shut}
+use Rattle.vbm_standing.proofs.Stores.{library_not_log, stands_redone, stands_alike, stands_once, stands_shut}
 use Rattle.vbm_engine.specs.declared.engine.Engine.{Engine}
 use Rattle.vbm_store.specs.declared.store.Image.{Image}
 use Rattle.vbm_engine.specs.declared.engine.Opened.{Opened}
 use Rattle.vbm_engine.specs.declared.engine.Opened.TheVariants as opened
 use Rattle.vbm_store.specs.declared.store.Store.{Store}
 use Rattle.vbm_ids.specs.Identifier.{has_id}
-use Rattle.vbm_store.specs.Serves.{image_id, image_name, image_in, IsSoundStore, Holds}
+use Rattle.vbm_store.specs.Serves as stores
+use Rattle.vbm_store.specs.Serves.{rests, running_in, image_id, image_name, image_in, image_files, IsWritable, IsSoundStore, Holds}
 use Rattle.vbm_engine.specs.Serves.{serves, IsReady}
 use Rattle.vbm_engine.specs.Recovers.{IsSettled}
-use Rattle.vbm_engine.specs.Opens.{StandsAlike, AreKeptRedone, Opens, SyncsFirst, AreRedone}
+use Rattle.vbm_engine.specs.Opens.{OpensSound, StandsAlike, AreKeptRedone, Opens, SyncsFirst, AreRedone}
 use Rattle.vbm_store.specs.Images.{IsRead}
 use Rattle.vbm_store.specs.declared.undone.Undone.{Undone}
 use Rattle.vbm_store.specs.declared.undone.Undone.TheVariants.{Refused, Failed, NoMemory}
-use Rattle.vbm_engine.specs.Parts.{Finds, ids_of, fault_behind, OpensOf}
+use Rattle.vbm_engine.specs.Parts.{IsRested, Finds, ids_of, fault_behind, OpensOf}
+use Rattle.vbm_store.proofs.Pushing.{medium_store}
 use Rattle.vbm_store.proofs.Keeping.{kept_itself, kept_besides}
-use Rattle.vbm_store.proofs.Readiness.{holds_besides, unstaged_here, settled_ready}
+use Rattle.vbm_store.proofs.Readiness.{held_rests, holds_besides, unstaged_here, settled_ready}
 use Rattle.vbm_registry.specs.declared.library.TheConstants.{LONGEST_LIBRARY}
 
 -- ---- the library's file
@@ -93,12 +105,12 @@ read_as name header_fault (Some f) h read = (ap (image_fault name header_fault) 
 pub medium_read : (l : NamedLibrary) (files : Files) (m : Medium) (image : Image) → image.name ≡ m.name → IsRead (files m.name) (Ok image.header)
     → (r : Result Image (Undone BadStore))
     → Finds (λ accepted. (medium_header_fault l image.name image.header ≡ None) × (accepted ≡ image)) (λ bad. medium_header_fault l image.name image.header ≡ Some bad) r
-    → Finds (λ accepted. (medium_fault l files m ≡ None) × (accepted ≡ image_in files m)) (λ bad. medium_fault l files m ≡ Some bad) r
+    → Finds (λ accepted. (medium_fault l files m ≡ None) × (accepted ≡ image_in files m.name)) (λ bad. medium_fault l files m ≡ Some bad) r
 unfolding header_in
 medium_read l files m image name read r =
     let is = read_as m.name (medium_header_fault l m.name) (files m.name) image.header read in
     let own : medium_fault l files m ≡ medium_header_fault l image.name image.header = is.0 ∙ ap (λ n. medium_header_fault l n image.header) (sym name) in
-    let same : image ≡ image_in files m = λ i. record { name = name i; header = is.1 i } in
+    let same : image ≡ image_in files m.name = λ i. record { name = name i; header = is.1 i } in
     finds_weaker _ _ _ _ (λ accepted fine. (own ∙ fine.0, fine.1 ∙ same)) (λ bad some. own ∙ some) r
 
 first_of_three : (a b c : Option BadStore) → first_fault a (first_fault b c) ≡ first_fault (first_fault a b) c
@@ -120,7 +132,7 @@ any_id id (image ∷ images) = rw (name_sym image.header.id id, any_id id images
 
 -- The images of the media before this place; the first fault of the others is that of all.
 pub record Opening (l : Library) (files : Files) (i : ℕ) (images : List Image) : Type 0 where
-  pub is : images ≡ map (image_in files) (take i l.media)
+  pub is : images ≡ map (image_in files) (map medium_entry_name (take i l.media))
   pub earlier : List (List ℕ)
   pub same : (id : List ℕ) → list_any (bytes_eq id) earlier ≡ list_any (bytes_eq id) (ids_of images)
   pub rest : media_fault (named l) files earlier (drop i l.media) ≡ media_fault (named l) files [] l.media
@@ -141,16 +153,17 @@ module _ (l : Library) (files : Files) (i : ℕ) (images : List Image) (m : Medi
       ∙ ap (media_fault (named l) files so_far.earlier) (sym (drop_more l.media i m lt))
       ∙ so_far.rest
 
-  pub opening_goes_on : fault_behind l files (ids_of images) m ≡ None → Opening l files (i + 1) (images ++ image_in files m ∷ [])
+  pub opening_goes_on : fault_behind l files (ids_of images) m ≡ None → Opening l files (i + 1) (images ++ image_in files m.name ∷ [])
   opening_goes_on none = record {
-    is = ap (λ (xs : List Image). xs ++ image_in files m ∷ []) so_far.is
-        ∙ ap (λ (n : Medium). map (image_in files) (take i l.media) ++ image_in files n ∷ []) at
-        ∙ sym (map_more (image_in files) l.media i m lt);
+    is = ap (λ (xs : List Image). xs ++ image_in files m.name ∷ []) so_far.is
+        ∙ sym (map_push (image_in files) (map medium_entry_name (take i l.media)) m.name)
+        ∙ ap (map (image_in files)) (ap (λ (n : Medium). map medium_entry_name (take i l.media) ++ n.name ∷ []) at
+        ∙ sym (map_more medium_entry_name l.media i m lt));
     earlier = id_in files m ∷ so_far.earlier;
     same = λ id.
         ap (λ b. bytes_eq id (id_in files m) || b) (so_far.same id)
         ∙ sym (any_end (bytes_eq id) (ids_of images) (id_in files m))
-        ∙ ap (list_any (bytes_eq id)) (sym (map_push (λ (image : Image). image.header.id) images (image_in files m)));
+        ∙ ap (list_any (bytes_eq id)) (sym (map_push (λ (image : Image). image.header.id) images (image_in files m.name)));
     rest = ap (λ o. first_fault o later) (sym none) ∙ next_fault;
   }
 
@@ -158,18 +171,65 @@ module _ (l : Library) (files : Files) (i : ℕ) (images : List Image) (m : Medi
   opening_stops bad some = sym next_fault ∙ ap (λ o. first_fault o later) some
 
 pub opening_ends : (l : Library) (files : Files) (i : ℕ) (images : List Image) → length l.media ≤ i → Opening l files i images
-    → (media_fault (named l) files [] l.media ≡ None) × (images ≡ map (image_in files) l.media)
+    → (media_fault (named l) files [] l.media ≡ None) × (images ≡ map (image_in files) (map medium_entry_name l.media))
 opening_ends l files i images past so_far = (
   sym so_far.rest ∙ ap (media_fault (named l) files so_far.earlier) (drop_all i l.media past),
-  so_far.is ∙ ap (map (image_in files)) (take_all i l.media past),
+  so_far.is ∙ ap (λ (ms : List Medium). map (image_in files) (map medium_entry_name ms)) (take_all i l.media past),
 )
 
-pub holds_from : (tells : Type 0) (told : tells) (old new : DiskState) → OnlyReads tells old new → (l : Library) (images : List Image) → library_of old.files ≡ Ok l
-    → (media_fault (named l) new.files [] l.media ≡ None) × (images ≡ map (image_in new.files) l.media) → Holds l images old.files
-holds_from tells told old new reads l images read opened =
-    let here = subst (λ f. (media_fault (named l) f [] l.media ≡ None) × (images ≡ map (image_in f) l.media)) (reads.files told) opened in
-    let plain = library_is old.files l read in
-    record { read = read; store = store_if_no_fault (named l) old.files (fault_plain l old.files plain.inners ∙ here.0); headers = here.1 }
+-- ---- the library that was read
+
+-- no inner image is in use yet, so that the images are those of the media
+no_inners : (l : Library) → IsDecoded BUILT keeps_places l → l.inners ≡ []
+no_inners l decoded = (decoded_rules BUILT l decoded).parts.inners refl
+
+pub media_files : (l : Library) → IsDecoded BUILT keeps_places l → image_files (named l) ≡ map medium_entry_name l.media
+media_files l decoded =
+    ap (λ (xs : List Inner). map medium_entry_name l.media ++ map (λ (x : NamedInner). inner_file l.seed x.number)
+    (map (inner_named (medium_names l.media)) xs)) (no_inners l decoded)
+    ∙ append-nil (map medium_entry_name l.media)
+
+pub decoded_off : (l : Library) → IsDecoded BUILT keeps_places l → library_off l ≡ l
+decoded_off l decoded = off_same l (decoded_rules BUILT l decoded).off
+
+pub decoded_writable : (l : Library) → IsDecoded BUILT keeps_places l → IsWritable l
+decoded_writable l decoded = let has = decoded_rules BUILT l decoded in record { rules = has.rules; built = has.parts }
+
+pub holds_from : (tells : Type 0) (told : tells) (old new : DiskState) → OnlyReads tells old new → (l : Library) (images : List Image)
+    → IsDecoded BUILT keeps_places l → library_of old.files ≡ Ok l
+    → (media_fault (named l) new.files [] l.media ≡ None) × (images ≡ map (image_in new.files) (map medium_entry_name l.media)) → Holds l images old.files
+holds_from tells told old new reads l images decoded read opened =
+    let here = subst (λ f. (media_fault (named l) f [] l.media ≡ None) × (images ≡ map (image_in f) (map medium_entry_name l.media)))
+    (reads.files told) opened in
+    record {
+      read = read ∙ ap Ok (sym (decoded_off l decoded));
+      store = store_if_no_fault (named l) old.files (fault_plain l old.files (no_inners l decoded) ∙ here.0);
+      headers = here.1 ∙ ap (map (image_in old.files)) (sym (media_files l decoded));
+    }
+
+-- a medium's file has a name of the store
+pub store_name : (l : Library) → IsDecoded BUILT keeps_places l → (i : ℕ) (m : Medium) → i < length l.media → m ≡ get_or l.media i m
+    → IsStoreName m.name
+store_name l decoded i m less at =
+    let x = item_at l.media i less in
+    subst (λ (n : Medium). IsStoreName n.name) (sym (at ∙ get_or_from_slice_get l.media i x.0 m x.1))
+    (medium_store x.0.name (All-get (λ (n : Medium). IsTrue (is_medium_name n.name)) l.media i x.0 (decoded_writable l decoded).rules.media x.1))
+
+-- a store that was read is sound
+pub sound_if_read : (e : Store) → IsDecoded BUILT keeps_places e.library → map image_name e.images ≡ image_files (named e.library) → IsSoundStore e
+sound_if_read e decoded names = record { library = decoded_writable e.library decoded; images = names }
+
+-- where nothing runs and nothing has changed, the world at rest is served
+serves_rests : (e : Store) (files : Files) → IsRested e → stores.serves e files ≡ rests e.library files
+serves_rests e files rested = (λ i. world_of (λ name. has_name itself name (rested.changed i)) (stopped i) (named e.library) files)
+  where
+    off : (machines : List Machine) (name : Name) → running_in (map entry_off machines) name ≡ false
+    off machines name =
+        any_map entry_off (λ (m : Machine). m.running && bytes_eq m.name name) machines ∙ any_none (λ (m : Machine). false) machines
+        (All-every (λ m. false ≡ false) (λ m. refl) machines)
+
+    stopped : running_in e.library.machines ≡ none_runs
+    stopped = ap (λ (l : Library). running_in l.machines) (sym rested.stopped) ∙ (λ i name. off e.library.machines name i)
 
 -- ---- what the files stand for
 
@@ -188,37 +248,28 @@ opens_since old mid new opened.Fault same opens = tt
 opens_since old mid new opened.NoMemory same opens = subst (λ f. StandsAlike f new.files × AreRedone f new.files) same opens
 
 -- the library of files after redo is that of the files, and they are kept
-kept_redone : (files now : Files) (l : Library) → RedoesTo now files → library_of now ≡ Ok l → AreKeptRedone files l now
-kept_redone files now l to read =
-    let lib = library_is now l read in
+kept_redone : (files now : Files) (l : Library) → IsLibrary (named l) → RedoesTo now files → library_of now ≡ Ok (library_off l)
+    → AreKeptRedone files l now
+kept_redone files now l is to read =
+    let kept = kept_besides l l to.result to.result now is (λ name other. sym (to.same name other)) (kept_itself l to.result is) in
     record {
       redone = to.result;
       redo = to.redo;
-      library = l;
+      library = library_off l;
       read = ap library_file (to.same library_name library_not_log) ∙ read;
-      kept = kept_besides l l to.result to.result now lib (λ name other. sym (to.same name other)) (kept_itself l to.result lib);
+      kept = record { shelf = kept.shelf; fronts = kept.fronts };
     }
 
-image_names : (files : Files) (ms : List Medium) → map image_name (map (image_in files) ms) ≡ map medium_entry_name ms
-image_names files [] = refl
-image_names files (m ∷ ms) = ap (λ (names : List Name). m.name ∷ names) (image_names files ms)
-
--- a store that holds files is sound
-sound_if_holds : (e : Store) (files : Files) → Holds e.library e.images files → IsSoundStore e
-sound_if_holds e files holds = record {
-  library = library_is files e.library holds.read;
-  images = ap (λ (images : List Image). map image_name images) holds.headers ∙ image_names files e.library.media;
-}
-
 -- what a settled disk holds that old files are redone to
-opens_as : (old new : DiskState) (e : Engine) → RedoesTo new.files old.files → Only new.files new.may_leave → IsShutInAll new.may_leave
-    → new.may_leave new.files → Holds e.store.library e.store.images new.files → Opens old new (opened.Open e)
-opens_as old new e to only shut now holds =
-    let sound = sound_if_holds e.store new.files holds in (
-      stands_redone new.files old.files _ to (held_if_store e.store.library new.files holds.read holds.store),
-      kept_redone old.files new.files e.store.library to holds.read,
-      λ u. settled_ready e.store new u sound holds (unstaged_here e.store new.files u) only shut now,
-    )
+opens_as : (old new : DiskState) (e : Engine) → IsLibrary (named e.store.library) → IsRested e.store → RedoesTo new.files old.files
+    → Only new.files new.may_leave → IsShutInAll new.may_leave → new.may_leave new.files → Holds e.store.library e.store.images new.files
+    → Opens old new (opened.Open e)
+opens_as old new e is rested to only shut now holds = (
+  stands_redone new.files old.files _ to
+      (held_rests e.store.library new.files holds.read holds.store ∙ ap Ok (sym (serves_rests e.store new.files rested))),
+  kept_redone old.files new.files e.store.library is to holds.read,
+  λ u. settled_ready e.store new u holds (unstaged_here e.store new.files u) only shut now,
+)
 
 -- ---- a log that is not open
 
@@ -255,11 +306,14 @@ module _ (old new : DiskState) (shut : IsOpen (old.files log_name) → ⊥) wher
   pub started_passes : Passes old new (RedoesTo old.files) → Passes old new (StandsAlike old.files)
   started_passes time = Passes-weaker old new _ _ time (alike_closed old.files shut)
 
-  pub started_opens : (e : Engine) → IsPlain e.store.library → SameBesidesLog new.files old.files → Only new.files new.may_leave
-      → IsShutInAll new.may_leave → new.may_leave new.files → Holds e.store.library e.store.images old.files → Opens old new (opened.Open e)
-  started_opens e lib same only closes now holds =
-      opens_as old new e (record { result = old.files; redo = closed shut refl; same = λ name other. sym (same name other) }) only closes now
-      (holds_besides e.store.library e.store.images old.files new.files lib (λ name other. sym (same name other)) holds)
+  pub started_opens : (e : Engine) → IsDecoded BUILT keeps_places e.store.library → e.store.changed ≡ [] → SameBesidesLog new.files old.files
+      → Only new.files new.may_leave → IsShutInAll new.may_leave → new.may_leave new.files → Holds e.store.library e.store.images old.files
+      → Opens old new (opened.Open e)
+  started_opens e decoded none same only closes now holds =
+      let is = (decoded_writable e.store.library decoded).rules in
+      opens_as old new e is (record { changed = none; stopped = decoded_off e.store.library decoded })
+      (record { result = old.files; redo = closed shut refl; same = λ name other. sym (same name other) }) only closes now
+      (holds_besides e.store.library e.store.images old.files new.files is same holds)
 
 -- the log is redone, and then the disk is only read
 module _ (tells : Type 0) (told : tells) (old mid new : DiskState) (opens : IsOpen (old.files log_name)) (redoes : RedoesTo mid.files old.files)
@@ -276,14 +330,15 @@ module _ (tells : Type 0) (told : tells) (old mid new : DiskState) (opens : IsOp
   alike_now : StandsAlike old.files new.files
   alike_now = after_redo old.files new.files redone_now shut_now
 
-  opens_now : (r : Opened) → OpensOf new.files r → Opens old new r
-  opens_now (opened.Open e) holds = opens_as old new e redone_now only_now (λ image may. settled.shut image (reads.images image may)) now holds
-  opens_now (opened.Refused bad) held = (stands_redone new.files old.files (Err bad) redone_now held, inr (opens, redone_now, shut_now))
-  opens_now opened.Fault t = tt
-  opens_now opened.NoMemory t = (alike_now, inr (opens, redone_now, shut_now))
+  opens_now : (r : Opened) → OpensSound r → OpensOf new.files r → Opens old new r
+  opens_now (opened.Open e) sound (holds, rested) =
+      opens_as old new e sound.library.rules rested redone_now only_now (λ image may. settled.shut image (reads.images image may)) now holds
+  opens_now (opened.Refused bad) sound held = (stands_redone new.files old.files (Err bad) redone_now held, inr (opens, redone_now, shut_now))
+  opens_now opened.Fault sound t = tt
+  opens_now opened.NoMemory sound t = (alike_now, inr (opens, redone_now, shut_now))
 
-  pub redone_opens : (r : Opened) → OpensOf mid.files r → Opens old new r
-  redone_opens r of = opens_now r (subst (λ f. OpensOf f r) (sym (reads.files told)) of)
+  pub redone_opens : (r : Opened) → OpensSound r → OpensOf mid.files r → Opens old new r
+  redone_opens r sound of = opens_now r sound (subst (λ f. OpensOf f r) (sym (reads.files told)) of)
 
   pub redone_passes : Passes old mid (IsLikeRedone old.files) → Passes old new (StandsAlike old.files)
   redone_passes time = Passes-trans old mid new _ _ _ time reads.time (λ image like held. stands_alike old.files image held like)

@@ -1,5 +1,5 @@
 -- What is known of an engine, by its store.
-use Rattle.std.proofs.Common.{List, map, subst, sym, ap, inl, inr, ◌∙◌}
+use Rattle.std.proofs.Common.{List, subst, sym, ap, inl, inr}
 use Rattle.vbm_ports.specs.Files.{Files}
 use Rattle.vbm_ports.specs.Disk.{DiskState, Passes, OnlyReads}
 use Rattle.vbm_ports.proofs.States.{Passes-weaker}
@@ -9,13 +9,10 @@ use Rattle.vbm_world.specs.declared.command.Command.{Command}
 use Rattle.vbm_world.specs.declared.command.Answer.{Answer}
 use Rattle.vbm_world.specs.World.{World, off}
 use Rattle.vbm_world.specs.Outcomes.{Outcome}
-use Rattle.vbm_world.specs.Step.{step_of}
 use Rattle.vbm_world.specs.Loose.{Unsettled, unsettled_after}
 use Rattle.vbm_store.specs.declared.store.Store.{Store}
 use Rattle.vbm_store.specs.Serves as stores
-use Rattle.vbm_registry.specs.declared.library.Library.{Library}
-use Rattle.vbm_registry.specs.Library.{medium_entry_name, IsPlain}
-use Rattle.vbm_store.specs.Serves.{image_name, StandsLoosely}
+use Rattle.vbm_store.specs.Serves.{StandsLoosely}
 use Rattle.vbm_store.specs.Turns.{IsInStep}
 use Rattle.vbm_store.specs.declared.decision.Turn.{Turn}
 use Rattle.vbm_store.specs.declared.store.Committed.TheVariants.{Done}
@@ -59,7 +56,4 @@ module _ {tells : Type 0} (e : Store) (c : Command) {old mid : DiskState} (reads
 -- a commit leaves a sound store
 pub sound_turn : (e : Store) (turn : Turn) → IsSoundTurn e turn → (next : Store) → HandsBack e turn.library turn.edit (Done next) → stores.IsSoundStore next
 sound_turn e turn sound next back =
-    record {
-      library = subst IsPlain (sym back.0) sound.0;
-      images = ap (map image_name) back.1 ∙ sound.1 ∙ sym (ap (λ (l : Library). map medium_entry_name l.media) back.0);
-    }
+    subst stores.IsSoundStore (sym back) (record { library = sound.0; images = sound.1 })

@@ -1,25 +1,22 @@
 -- The making of a library over files that are settled.
-use Rattle.std.specs.Prelude.{◌≡◌, ◌≢◌, ℕ, List, None, Ok}
+use Rattle.std.specs.Prelude.{◌≡◌, ◌≢◌, ℕ, List, None}
 use Rattle.vbm_ports.specs.Files.{Files}
 use Rattle.vbm_ports.specs.Disk.{DiskState}
 use Rattle.vbm_intent.specs.declared.change.Change.{Change}
 use Rattle.vbm_intent.specs.Changes.{changed}
 use Rattle.vbm_intent.specs.Log.{SameBesidesLog, IsBeforeOrAfter}
+use Rattle.vbm_ids.specs.Identifier.{IsSeed}
 use Rattle.vbm_registry.specs.Library.{library_name}
-use Rattle.vbm_registry.specs.Spelling.{spelling}
-use Rattle.vbm_registry.specs.declared.features.TheConstants.{BUILT}
-use Rattle.vbm_registry.specs.Grammar.{library_in}
-use Rattle.vbm_registry.specs.PlaceRules.{keeps_places}
 use Rattle.vbm_engine.specs.declared.engine.Made.{Made}
 use Rattle.vbm_engine.specs.declared.engine.Made.TheVariants as made
 use Rattle.vbm_store.specs.Plans.{library_changes}
 use Rattle.vbm_engine.specs.Opens.{empty_library}
 use Rattle.vbm_engine.specs.Recovers.{IsSettled}
 
--- a plan that writes an empty library, which can be read again
+-- a plan that writes an empty library
 pub record IsNewPlan (seed : List ℕ) (plan : List Change) : Type 0 where
   pub changes : plan ≡ library_changes (empty_library seed)
-  pub again : library_in BUILT keeps_places (spelling (empty_library seed)) ≡ Ok (empty_library seed)
+  pub is_seed : IsSeed seed
 
 abbrev pub with_library : List ℕ → Files → Files
 with_library seed files = changed (library_changes (empty_library seed)) files
@@ -29,7 +26,7 @@ pub record IsWritten (seed : List ℕ) (files : Files) (new : DiskState) : Type 
   pub absent : files library_name ≡ None
   pub same : SameBesidesLog new.files (with_library seed files)
   pub settled : IsSettled new
-  pub again : library_in BUILT keeps_places (spelling (empty_library seed)) ≡ Ok (empty_library seed)
+  pub is_seed : IsSeed seed
 
 abbrev pub MakesOver : List ℕ → DiskState → DiskState → Made → Type 0
 MakesOver seed old new made.Done = IsWritten seed old.files new
@@ -41,5 +38,4 @@ MakesOver seed old new made.NoMemory = Unit {0}
 -- an image while that is done
 pub data IsOver (seed : List ℕ) (old : DiskState) (image : Files) : Type 0 where
   before : old.may_leave image → IsOver seed old image
-  during : library_in BUILT keeps_places (spelling (empty_library seed)) ≡ Ok (empty_library seed)
-      → IsBeforeOrAfter (library_changes (empty_library seed)) old.files old.may_leave image → IsOver seed old image
+  during : IsSeed seed → IsBeforeOrAfter (library_changes (empty_library seed)) old.files old.may_leave image → IsOver seed old image

@@ -11,16 +11,16 @@ ghost use Rattle.vbm_ports.specs.Names.{IsStoreName};
 ghost use Rattle.vbm_header.specs.declared.Header.{Header};
 ghost use Rattle.vbm_intent.specs.Changes.{log_name};
 ghost use Rattle.vbm_intent.specs.Log.{IsOpen, recorded_size};
-ghost use Rattle.vbm_registry.specs.Library.{library_name, medium_entry_name, IsPlain};
+ghost use Rattle.vbm_registry.specs.Library.{library_name, medium_entry_name};
 ghost use Rattle.vbm_registry.specs.declared.features.TheConstants.{BUILT as built};
-ghost use Rattle.vbm_registry.specs.Grammar.{library_in};
+ghost use Rattle.vbm_registry.specs.Grammar.{library_in, IsDecoded};
 ghost use Rattle.vbm_registry.specs.PlaceRules.{keeps_places};
 ghost use Rattle.vbm_registry.specs.Named.{named};
 ghost use Rattle.vbm_standing.specs.Faults.{medium_header_fault, file_fault, medium_fault, same_id_fault, media_fault};
 ghost use Rattle.vbm_standing.specs.Stands.{library_of, read_library, held_by};
 ghost use Rattle.vbm_store.specs.Undone.{is_failed, has_failed};
 ghost use Rattle.vbm_store.specs.Images.{OpensImage, is_failed_image};
-ghost use Rattle.vbm_store.specs.Serves.{image_name, image_in, Holds};
+ghost use Rattle.vbm_store.specs.Serves.{image_name, image_in, image_files, Holds};
 ghost use Rattle.vbm_engine.specs.Opens.{Opens, SyncsFirst, OpensSound, opening_failed, StandsAlike};
 ghost use Rattle.vbm_engine.specs.Parts.{OnBad, Finds, ids_of, fault_behind, OpensOf};
 ghost use Rattle.vbm_intent.specs.declared.limits.TheConstants.{LONGEST_BODY};
@@ -33,7 +33,7 @@ use vbm_ids::{has_id, is_foreign};
 use vbm_intent::{Log, record_size};
 use vbm_ports::{Disk, Failed, LIBRARY_NAME, NoMemory, Text};
 use vbm_registry::{BadStore, DecodeFault, LONGEST_LIBRARY, Library, Medium, decode};
-use vbm_store::{Image, Images, OpenFault, Store, Undone, open_image};
+use vbm_store::{Changed, Image, Images, OpenFault, Store, Undone, open_image};
 
 /// Opens a store: makes the changes that wait in its log, and reads its library and every image of it. The first fault of the
 /// store is the answer otherwise; its files then stay, but for a log whose gate was open, whose changes are made. A crash inside
@@ -101,6 +101,7 @@ fn open_redone<D: Disk>(alloc: Global, disk: &mut D, log: Log) -> Opened
         Ok((library, images)) => Opened::Open(Engine {
             store: Store {
                 library,
+                changed: Changed::new(alloc),
                 images,
                 log,
             },
@@ -122,7 +123,7 @@ fn open_closed<D: Disk>(alloc: Global, disk: &mut D) -> Opened
     ensures faults { IsCounted (opening_failed result) (D.state disk.old).faults (D.state disk.new).faults }
 {
     match load(alloc, disk) {
-        Ok((library, images)) => start(disk, library, images),
+        Ok((library, images)) => start(alloc, disk, library, images),
         Err(Undone::Refused(bad)) => Opened::Refused(bad),
         Err(Undone::Failed) => Opened::Fault,
         Err(Undone::NoMemory) => Opened::NoMemory,
@@ -130,12 +131,12 @@ fn open_closed<D: Disk>(alloc: Global, disk: &mut D) -> Opened
 }
 
 // Starts the log of a store that opens.
-fn start<D: Disk>(disk: &mut D, library: Library, images: Images) -> Opened
+fn start<D: Disk>(alloc: Global, disk: &mut D, library: Library, images: Images) -> Opened
     requires settled { D.tells → Only (D.state disk.old).files (D.state disk.old).may_leave }
     requires closed { D.tells → IsOpen ((D.state disk.old).files log_name) → ⊥ }
     requires holds { D.tells → Holds library images (D.state disk.old).files }
-    requires rules { IsPlain library }
-    requires names { map image_name images ≡ map medium_entry_name library.media }
+    requires rules { IsDecoded built keeps_places library }
+    requires names { map image_name images ≡ image_files (named library) }
     ensures opens { D.tells → Opens (D.state disk.old) (D.state disk.new) result }
     ensures sound { OpensSound result }
     ensures any_moment { D.tells
@@ -146,6 +147,7 @@ fn start<D: Disk>(disk: &mut D, library: Library, images: Images) -> Opened
         Ok(log) => Opened::Open(Engine {
             store: Store {
                 library,
+                changed: Changed::new(alloc),
                 images,
                 log,
             },
@@ -158,8 +160,8 @@ fn start<D: Disk>(disk: &mut D, library: Library, images: Images) -> Opened
 fn load<D: Disk>(alloc: Global, disk: &mut D) -> Result<(Library, Images), Undone<BadStore>>
     ensures told { D.tells → Finds
         (λ x. Holds x.0 x.1 (D.state disk.old).files) (λ bad. held_by (D.state disk.old).files ≡ Err bad) result }
-    ensures rules { IfOk result (λ x. IsPlain x.0) }
-    ensures names { IfOk result (λ x. map image_name x.1 ≡ map medium_entry_name (x.0).media) }
+    ensures rules { IfOk result (λ x. IsDecoded built keeps_places x.0) }
+    ensures names { IfOk result (λ x. map image_name x.1 ≡ image_files (named x.0)) }
     ensures reads { OnlyReads D.tells (D.state disk.old) (D.state disk.new) }
     ensures faults { IsCounted (has_failed result) (D.state disk.old).faults (D.state disk.new).faults }
 {
@@ -172,7 +174,7 @@ fn load<D: Disk>(alloc: Global, disk: &mut D) -> Result<(Library, Images), Undon
 fn load_library<D: Disk>(alloc: Global, disk: &mut D) -> Result<Library, Undone<BadStore>>
     ensures told { D.tells
         → Finds (λ l. library_of (D.state disk.old).files ≡ Ok l) (λ bad. library_of (D.state disk.old).files ≡ Err bad) result }
-    ensures rules { IfOk result IsPlain }
+    ensures rules { IfOk result (IsDecoded built keeps_places) }
     ensures reads { OnlyReads D.tells (D.state disk.old) (D.state disk.new) }
     ensures faults { IsCounted (has_failed result) (D.state disk.old).faults (D.state disk.new).faults }
 {
@@ -189,7 +191,7 @@ fn read_front<D: Disk>(alloc: Global, disk: &mut D, len: usize) -> Result<Librar
     requires long { D.tells → len ≡ min (length (bytes_of ((D.state disk.old).files library_name))) (LONGEST_LIBRARY + 1) }
     ensures told { D.tells
         → Finds (λ l. library_of (D.state disk.old).files ≡ Ok l) (λ bad. library_of (D.state disk.old).files ≡ Err bad) result }
-    ensures rules { IfOk result IsPlain }
+    ensures rules { IfOk result (IsDecoded built keeps_places) }
     ensures reads { OnlyReads D.tells (D.state disk.old) (D.state disk.new) }
     ensures faults { IsCounted (has_failed result) (D.state disk.old).faults (D.state disk.new).faults }
 {
@@ -208,7 +210,7 @@ fn read_into<D: Disk>(
     requires long { D.tells → length front.old ≡ min (length (bytes_of ((D.state disk.old).files library_name))) (LONGEST_LIBRARY + 1) }
     ensures told { D.tells
         → Finds (λ l. library_of (D.state disk.old).files ≡ Ok l) (λ bad. library_of (D.state disk.old).files ≡ Err bad) result }
-    ensures rules { IfOk result IsPlain }
+    ensures rules { IfOk result (IsDecoded built keeps_places) }
     ensures reads { OnlyReads D.tells (D.state disk.old) (D.state disk.new) }
     ensures faults { IsCounted (has_failed result) (D.state disk.old).faults (D.state disk.new).faults }
 {
@@ -220,7 +222,7 @@ fn read_into<D: Disk>(
 
 fn decode_library(alloc: Global, bytes: &[u8]) -> Result<Library, Undone<BadStore>>
     ensures told { Finds (λ l. read_library (library_in built keeps_places bytes.now) ≡ Ok l) (λ bad. read_library (library_in built keeps_places bytes.now) ≡ Err bad) result }
-    ensures rules { IfOk result IsPlain }
+    ensures rules { IfOk result (IsDecoded built keeps_places) }
     ensures no_fault { has_failed result ≡ false }
 {
     match decode(alloc, bytes) {
@@ -236,10 +238,10 @@ fn open_images<D: Disk>(
     disk: &mut D,
     library: &Library,
 ) -> Result<Images, Undone<BadStore>>
-    requires { IsPlain library.now }
+    requires { IsDecoded built keeps_places library.now }
     ensures told { D.tells → Finds
         (λ images. (media_fault (named library.now) (D.state disk.old).files [] library.now.media ≡ None)
-        × (images ≡ map (image_in (D.state disk.old).files) library.now.media))
+        × (images ≡ map (image_in (D.state disk.old).files) (map medium_entry_name library.now.media)))
         (λ bad. media_fault (named library.now) (D.state disk.old).files [] library.now.media ≡ Some bad) result }
     ensures names { IfOk result (λ images. map image_name images ≡ map medium_entry_name library.now.media) }
     ensures reads { OnlyReads D.tells (D.state disk.old) (D.state disk.new) }
@@ -263,7 +265,7 @@ fn add_image<D: Disk>(
     requires { IsStoreName medium.now.name }
     ensures told { D.tells → Finds
         (λ _. (fault_behind library.now (D.state disk.old).files (ids_of images.old) medium.now ≡ None)
-        × (images.new ≡ images.old ++ image_in (D.state disk.old).files medium.now ∷ []))
+        × (images.new ≡ images.old ++ image_in (D.state disk.old).files medium.now.name ∷ []))
         (λ bad. fault_behind library.now (D.state disk.old).files (ids_of images.old) medium.now ≡ Some bad) result }
     ensures names { OnOk result (map image_name images.new ≡ map image_name images.old ++ medium.now.name ∷ []) }
     ensures reads { OnlyReads D.tells (D.state disk.old) (D.state disk.new) }
@@ -300,7 +302,7 @@ fn open_medium<D: Disk>(
     requires { IsStoreName medium.now.name }
     ensures told { D.tells → Finds
         (λ image. (medium_fault (named library.now) (D.state disk.old).files medium.now ≡ None)
-        × (image ≡ image_in (D.state disk.old).files medium.now))
+        × (image ≡ image_in (D.state disk.old).files medium.now.name))
         (λ bad. medium_fault (named library.now) (D.state disk.old).files medium.now ≡ Some bad) result }
     ensures name { IfOk result (λ image. image.name ≡ medium.now.name) }
     ensures reads { OnlyReads D.tells (D.state disk.old) (D.state disk.new) }

@@ -1,9 +1,9 @@
 -- Closing a medium.
 use Rattle.std.proofs.Common.{◌≡◌, ℕ, ◌^◌, ◌≤◌, Bool, true, false, ◌&&◌, List, [], ◌∷◌, ◌++◌, map, Option, Some, None, refl, sym, ap, subst, ◌∙◌, arith, cond, is_some, IsTrue}
+use Rattle.std.specs.List.{list_any}
 use Rattle.std.specs.Option.{option_map}
 use Rattle.std.specs.Str.{bytes_eq}
 use Rattle.std.proofs.Math.Bool.{and-false}
-use Rattle.std.proofs.lemmas.Slice.Eq.{bytes_eq-Decides}
 use Rattle.vbm_ports.specs.Files.{Files}
 use Rattle.vbm_ports.specs.Names.{is_medium_name}
 use Rattle.vbm_ports.proofs.NameLemmas.{store_name_short}
@@ -14,40 +14,45 @@ use Rattle.vbm_intent.specs.Changes.{of_file, file_after, changed, FitsFile, Fit
 use Rattle.vbm_intent.specs.Plan.{body_size}
 use Rattle.vbm_registry.specs.declared.media.Medium.{Medium}
 use Rattle.vbm_registry.specs.declared.library.Library.{Library}
-use Rattle.vbm_registry.specs.Library.{library_name, medium_entry_name, without_entry}
+use Rattle.vbm_registry.specs.Entries.{is_using, IsUnused}
+use Rattle.vbm_registry.specs.Library.{library_name, medium_entry_name}
+use Rattle.vbm_registry.specs.Named.{NamedLibrary, named as library_named}
+use Rattle.vbm_registry.specs.Renumbered.{without_medium_entry}
+use Rattle.vbm_standing.specs.ChainDisks.{inner_file}
 use Rattle.vbm_standing.specs.Headers.{shelved_file}
-use Rattle.vbm_standing.specs.Meaning.{none_changed, none_runs, medium_in, shelf_in, world_of, world_with}
+use Rattle.vbm_standing.specs.Meaning.{medium_in, shelf_in, world_of}
 use Rattle.vbm_standing.specs.Faults.{IsMediumFile}
-use Rattle.vbm_standing.specs.Stands.{library_file, read_library}
-use Rattle.vbm_registry.specs.Named.{named as library_named}
-use Rattle.vbm_registry.proofs.PlainFiles.{plain_again}
+use Rattle.vbm_standing.proofs.InnerFileNames.{inner_named_so}
+use Rattle.vbm_standing.proofs.MediaRules.{unused-if}
+use Rattle.vbm_standing.proofs.MediaWorlds.{SameOthers, named-listed, unmerged-into, unused-free}
+use Rattle.vbm_standing.proofs.WorldLookups.{in_use-world, is_off_shelf, medium-shelved}
 use Rattle.vbm_standing.proofs.WorldParts.{medium_of-world}
-use Rattle.vbm_standing.proofs.HeaderFacts.{header_frame}
-use Rattle.vbm_standing.proofs.Stores.{SameBesides, same_others, store_without, library_without}
-use Rattle.vbm_standing.proofs.Worlds.{no_machines, off_shelf, own_shelved, with_shelved_none, world_without}
-use Rattle.vbm_named.specs.Names.{Name, find_by, has_name, without}
-use Rattle.vbm_world.specs.World.{World, medium_name, is_in_use, with_shelved}
+use Rattle.vbm_standing.proofs.Worlds.{with_shelved_none}
+use Rattle.vbm_named.specs.Names.{Name, find_by, without}
+use Rattle.vbm_world.specs.World.{World, medium_name, with_shelved}
 use Rattle.vbm_world.specs.Outcomes.{Outcome}
 use Rattle.vbm_world.specs.Media.{shelved}
 use Rattle.vbm_world.specs.Step.{step_of}
 use Rattle.vbm_world.specs.Loose.{all_settled, is_refused}
 use Rattle.vbm_world.specs.declared.command.Answer.TheVariants.{Done, Refused}
 use Rattle.vbm_world.specs.declared.command.Command.TheVariants.{CloseMedium}
-use Rattle.vbm_world.specs.declared.command.Refusal.TheVariants.{NoSuchMedium}
-use Rattle.vbm_named.proofs.Lists.{name_refl, name_sym, All-map, All-find, has_found, find_named, without_map}
+use Rattle.vbm_world.specs.declared.command.Refusal.{Refusal}
+use Rattle.vbm_world.specs.declared.command.Refusal.TheVariants.{NoSuchMedium, InUse}
+use Rattle.vbm_named.proofs.Lists.{name_refl, name_sym, same_name, All-every, All-find, has_found, find_named}
 use Rattle.vbm_store.specs.declared.store.Store.{Store}
-use Rattle.vbm_store.specs.declared.store.Image.{Image}
-use Rattle.vbm_media.specs.Closes.{removal}
+use Rattle.vbm_store.specs.declared.images.Edit.TheVariants as edits
+use Rattle.vbm_store.specs.Edits.{store_after}
+use Rattle.vbm_media.specs.Closes.{CanClose, removal}
 use Rattle.vbm_store.specs.Plans.{library_changes}
-use Rattle.vbm_store.specs.Serves.{serves, image_name, image_in, IsSoundStore, Holds}
+use Rattle.vbm_store.specs.Serves.{serves, changed_of, running_of, image_name, image_files, IsWritable, IsSoundStore, Holds}
 use Rattle.vbm_store.specs.Kept.{KeepsBytes}
 use Rattle.vbm_store.specs.Steps.{Manages, Answers}
-use Rattle.vbm_store.proofs.Keeping.{kept_media}
+use Rattle.vbm_store.proofs.Keeping.{kept_images}
 use Rattle.vbm_store.proofs.Turning.{manages}
-use Rattle.vbm_store.proofs.Decisions.{medium_not_library, inner_not_library, kept_or}
-use Rattle.vbm_store.proofs.Planned.{library_made, library_frame, library_fits}
+use Rattle.vbm_store.proofs.Decisions.{medium_not_library, inner_not_library, image_not_library, kept_or}
+use Rattle.vbm_store.proofs.GoneMedia.{inner_other, gone_writable, gone_images, gone_holds, gone_serves}
+use Rattle.vbm_store.proofs.Planned.{library_frame, library_fits}
 use Rattle.vbm_store.proofs.Pushing.{medium_store}
-use Rattle.vbm_store.proofs.Readiness.{images_same}
 
 -- ---- the removal
 
@@ -79,106 +84,121 @@ none_or : (file : Option (List ℕ)) (b : Bool) → file ≡ None → cond b Non
 none_or file true none = refl
 none_or file false none = none
 
+-- ---- refusals
+
+module _ (e : Store) (files : Files) (name : Name) (delete : Bool) where
+  refuses : (refusal : Refusal) → (Refused refusal, serves e files) ≡ step_of (serves e files) (CloseMedium name delete) 0
+      → Answers files e (CloseMedium name delete) (Refused refusal)
+  refuses refusal by = (by, λ u. ap (λ (o : Outcome). cond (is_refused o.0) u all_settled) (sym by))
+
+  pub closes_none : find_by medium_entry_name name e.library.media ≡ None → Answers files e (CloseMedium name delete) (Refused NoSuchMedium)
+  closes_none none = refuses NoSuchMedium
+      (rw (medium_of-world (changed_of e) (running_of e) (library_named e.library) files name, none) refl)
+
+  pub closes_used : (m : Medium) → find_by medium_entry_name name e.library.media ≡ Some m
+      → list_any (is_using name) (library_named e.library).machines ≡ true → Answers files e (CloseMedium name delete) (Refused InUse)
+  closes_used m is used = refuses InUse (rw (
+    medium_of-world (changed_of e) (running_of e) (library_named e.library) files name,
+    is,
+    in_use-world (changed_of e) (running_of e) (library_named e.library) files name,
+    used,
+  ) refl)
+
 -- ---- the store without the medium
 
-pub closes_none : (e : Store) (files : Files) (name : Name) (delete : Bool) → find_by medium_entry_name name e.library.media ≡ None
-    → Answers files e (CloseMedium name delete) (Refused NoSuchMedium)
-closes_none e files name delete none =
-    let by : (Refused NoSuchMedium, serves e files) ≡ step_of (serves e files) (CloseMedium name delete) 0 =
-    rw (medium_of-world none_changed none_runs (library_named e.library) files name, none) refl in
-    (by, λ u. ap (λ (o : Outcome). cond (is_refused o.0) u all_settled) (sym by))
+unused_name : (l : Library) (name : Name) → IsWritable l → CanClose l name → IsUnused (library_named l) name
+unused_name l name is can = unused-if (library_named l) is.rules name can.free
 
-pub images_less : (e : Store) (name : Name) → IsSoundStore e
-    → map image_name (without image_name name e.images) ≡ map medium_entry_name (without medium_entry_name name e.library.media)
-images_less e name sound =
-    without_map image_name image_name (λ n. n) (λ x. refl) name e.images
-    ∙ ap (without (λ n. n) name) sound.images
-    ∙ sym (without_map medium_entry_name medium_entry_name (λ n. n) (λ x. refl) name e.library.media)
+pub closed_writable : (l : Library) (name : Name) → IsWritable l → CanClose l name → IsWritable (without_medium_entry l name)
+closed_writable l name is can = gone_writable l name is can.there (unused_name l name is can)
+
+pub images_less : (e : Store) (name : Name) → IsSoundStore e → CanClose e.library name
+    → map image_name (without image_name name e.images) ≡ image_files (library_named (without_medium_entry e.library name))
+images_less e name sound can = gone_images e.library name sound.library can.there (unused_name e.library name sound.library can) e.images sound.images
 
 module _ (e : Store) (files : Files) (name : Name) (delete : Bool) (holds : Holds e.library e.images files) (sound : IsSoundStore e)
-    (named : IsTrue (is_medium_name name)) where
-  abbrev now_library : Library
-  now_library = without_entry e.library name
+    (can : CanClose e.library name) where
+  abbrev l : NamedLibrary
+  l = library_named e.library
+
+  abbrev left : Library
+  left = without_medium_entry e.library name
 
   abbrev plan : List Change
-  plan = removal name delete ++ library_changes now_library
+  plan = removal name delete ++ library_changes left
 
   abbrev now : Files
   now = changed plan files
+
+  named : IsTrue (is_medium_name name)
+  named = named-listed l sound.library.rules name can.there
+
+  unused : IsUnused l name
+  unused = unused_name e.library name sound.library can
 
   apart : of_file library_name (removal name delete) ≡ []
   apart = removal_apart name delete named
 
   now_file : (n : Name) → bytes_eq library_name n ≡ false → now n ≡ cond (delete && bytes_eq name n) None (files n)
-  now_file n other = library_frame (removal name delete) now_library files n other ∙ removed name delete named files n
+  now_file n other = library_frame (removal name delete) left files n other ∙ removed name delete named files n
 
-  now_others : SameBesides name files now
-  now_others n is differs = now_file n (medium_not_library n is) ∙ rw (name_sym name n ∙ differs, and-false delete) refl
+  now_other : (n : Name) → bytes_eq library_name n ≡ false → bytes_eq name n ≡ false → now n ≡ files n
+  now_other n other differs = now_file n other ∙ rw (differs, and-false delete) refl
+
+  others : SameOthers l name files now
+  others = record {
+    media = λ n is differs. now_other n (medium_not_library n is) (name_sym name n ∙ differs);
+    inners = All-every _ (λ x. now_other (inner_file l.seed x.number) (inner_not_library (inner_file l.seed x.number) (inner_named_so l.seed x.number))
+        (name_sym name (inner_file l.seed x.number) ∙ inner_other name l.seed x.number named)) l.inners;
+  }
 
   now_here : now name ≡ cond delete None (files name)
   now_here =
       now_file name (medium_not_library name named)
       ∙ rw (name_refl name) (elim delete as (λ d. cond (d && true) None (files name) ≡ cond d None (files name)) [ true ↦ refl | false ↦ refl ])
 
-  now_holds : Holds now_library (without image_name name e.images) now
-  now_holds =
-      let same = same_others e.library name files now sound.library now_others in
-      record {
-        read = ap library_file (library_made (removal name delete) now_library files apart)
-            ∙ ap read_library (plain_again now_library (library_without e.library name sound.library));
-        store = store_without e.library files now name sound.library.inners holds.store same;
-        headers = ap (without image_name name) holds.headers
-            ∙ sym (without_map (image_in files) medium_entry_name image_name (λ m. refl) name e.library.media)
-            ∙ sym (images_same files now now_library.media (All-map _ _ (λ m is. header_frame files now m.name is) now_library.media same));
-      }
-
   module _ (m : Medium) (is : find_by medium_entry_name name e.library.media ≡ Some m) where
-    now_shelf : with_shelved (shelf_in (library_named e.library) files) name (option_map shelved_file (now name))
-        ≡ cond delete (shelf_in (library_named e.library) files)
-        (with_shelved (shelf_in (library_named e.library) files) name (shelved (medium_in none_changed (library_named e.library) files m) (medium_in none_changed (library_named e.library) files m).flat))
+    now_shelf : with_shelved (shelf_in l files) name (option_map shelved_file (now name)) ≡ cond delete (shelf_in l files)
+        (with_shelved (shelf_in l files) name (shelved (medium_in (changed_of e) l files m) (medium_in (changed_of e) l files m).flat))
     now_shelf =
-        let shelf = shelf_in (library_named e.library) files in
-        let same : m.name ≡ name = (bytes_eq-Decides m.name name).0 (find_named medium_entry_name name m e.library.media is) in
-        let own = All-find medium_entry_name (IsMediumFile (library_named e.library) files) name m e.library.media holds.store.media is in
-        let has : has_name medium_entry_name name e.library.media ≡ true = has_found medium_entry_name name e.library.media ∙ ap is_some is in
+        let shelf = shelf_in l files in
+        let same : m.name ≡ name = same_name m.name name (find_named medium_entry_name name m e.library.media is) in
+        let none : IsUnused l m.name = subst (IsUnused l) (sym same) unused in
+        let own = All-find medium_entry_name (IsMediumFile l files) name m e.library.media holds.store.media is in
+        let before : shelved (medium_in (changed_of e) l files m) (medium_in (changed_of e) l files m).flat ≡ option_map shelved_file (files name) =
+        medium-shelved (changed_of e) l files m own (unmerged-into l m.name sound.library.rules none) (unused-free l m none)
+        ∙ ap (λ n. option_map shelved_file (files n)) same in
         ap (λ o. with_shelved shelf name (option_map shelved_file o)) now_here
-        ∙ elim delete as (λ d. with_shelved shelf name (option_map shelved_file (cond d None (files name)))
-        ≡ cond d shelf (with_shelved shelf name (shelved (medium_in none_changed (library_named e.library) files m) (medium_in none_changed (library_named e.library) files m).flat))) [
-          | true ↦ with_shelved_none shelf name (off_shelf (library_named e.library) files name has)
-          | false ↦ ap (with_shelved shelf name) (ap (λ n. option_map shelved_file (files n)) (sym same)
-              ∙ sym (own_shelved none_changed e.library files m sound.library own))
+        ∙ elim delete as (λ d. with_shelved shelf name (option_map shelved_file (cond d None (files name))) ≡ cond d shelf
+        (with_shelved shelf name (shelved (medium_in (changed_of e) l files m) (medium_in (changed_of e) l files m).flat))) [
+          | true ↦ with_shelved_none shelf name (is_off_shelf l files name can.there)
+          | false ↦ ap (with_shelved shelf name) (sym before)
         ]
 
-    now_by : (Done, world_with none_changed none_runs now_library now) ≡ step_of (serves e files) (CloseMedium name delete) 0
+    now_by : (log : Log) → (Done, serves (store_after e left (edits.Remove name) log) now) ≡ step_of (serves e files) (CloseMedium name delete) 0
     unfolding world_of
-    now_by =
-        let w = world_with none_changed none_runs e.library files in
-        let free : is_in_use w.machines name ≡ false = ap (λ ms. is_in_use ms name) (no_machines none_changed e.library files sound.library) in
-        rw (medium_of-world none_changed none_runs (library_named e.library) files name, is, free) (ap (λ (v : World). (Done, v))
-        (world_without none_changed e.library files now name sound.library now_others named
+    now_by log =
+        let w = serves e files in
+        rw (medium_of-world (changed_of e) (running_of e) l files name, is, in_use-world (changed_of e) (running_of e) l files name, can.free)
+        (ap (λ (v : World). (Done, v)) (gone_serves e name sound.library can.there unused files now others log
         ∙ ap (λ s. record w { media = without medium_name name w.media; shelf = s }) now_shelf))
 
-    closes_some : (log : Log) → Manages files e (CloseMedium name delete) plan
-        (record { library = now_library; images = without image_name name e.images; log = log }) Done
-    closes_some log = manages files e (CloseMedium name delete) plan
-        (record { library = now_library; images = without image_name name e.images; log = log }) Done
-        (record {
-          library = library_without e.library name sound.library;
-          images = images_less e name sound;
-        })
-        (library_fits (removal name delete) now_library files apart (removal_fits name delete named files)) now_holds now_by
-        (kept_media e.library now_library files now sound.library
-        (λ n is. subst (KeepsBytes (files n)) (sym (now_file n (medium_not_library n is))) (kept_or (files n) (delete && bytes_eq name n))))
+    closes_some : (log : Log) → Manages files e (CloseMedium name delete) plan (store_after e left (edits.Remove name) log) Done
+    closes_some log = manages files e (CloseMedium name delete) plan (store_after e left (edits.Remove name) log) Done
+        (record { library = closed_writable e.library name sound.library can; images = images_less e name sound can })
+        (library_fits (removal name delete) left files apart (removal_fits name delete named files))
+        (gone_holds e name sound.library can.there unused files now others (removal name delete) refl apart holds)
+        (now_by log)
+        (kept_images e.library left files now sound.library.rules
+        (λ n is. subst (KeepsBytes (files n)) (sym (now_file n (image_not_library n is))) (kept_or (files n) (delete && bytes_eq name n))))
         (λ n inner unlisted none. now_file n (inner_not_library n inner) ∙ none_or (files n) (delete && bytes_eq name n) none)
 
-  pub closes : IsTrue (has_name medium_entry_name name e.library.media) → (k : Library) (images : List Image) (changes : List Change)
-      → k ≡ now_library → images ≡ without image_name name e.images → changes ≡ plan → (log : Log)
-      → Manages files e (CloseMedium name delete) changes (record { library = k; images = images; log = log }) Done
-  closes has k images changes k_is images_are changes_are log =
-      rw (k_is, images_are, changes_are) (of (find_by medium_entry_name name e.library.media) refl)
+  pub closes : (k : Library) (n : Name) (changes : List Change) → k ≡ left → n ≡ name → changes ≡ plan → (log : Log)
+      → Manages files e (CloseMedium name delete) changes (store_after e k (edits.Remove n) log) Done
+  closes k n changes k_is n_is changes_are log =
+      rw (k_is, n_is, changes_are) (of (find_by medium_entry_name name e.library.media) refl)
     where
       of : (o : Option Medium) → find_by medium_entry_name name e.library.media ≡ o
-          → Manages files e (CloseMedium name delete) plan
-          (record { library = now_library; images = without image_name name e.images; log = log }) Done
-      of None is = let no : true ≡ false = sym has ∙ has_found medium_entry_name name e.library.media ∙ ap is_some is in absurd cc
+          → Manages files e (CloseMedium name delete) plan (store_after e left (edits.Remove name) log) Done
+      of None is = let no : true ≡ false = sym can.there ∙ has_found medium_entry_name name e.library.media ∙ ap is_some is in absurd cc
       of (Some m) is = closes_some m is log

@@ -1,5 +1,5 @@
 -- Making a medium.
-use Rattle.std.proofs.Common.{◌≡◌, ℕ, ◌+◌, ◌^◌, Bool, true, false, List, [], ◌∷◌, ◌++◌, map, length, Option, Some, None, Ok, refl, sym, ap, subst, ◌∙◌, arith, is_some, IsTrue, inl, inr, bytes_eq, option_copied, Bor}
+use Rattle.std.proofs.Common.{◌≡◌, ℕ, ◌+◌, Bool, true, false, List, [], ◌∷◌, ◌++◌, map, length, Option, Some, None, Ok, refl, sym, ap, subst, ◌∙◌, arith, is_some, IsTrue, inl, inr, bytes_eq, option_copied, Bor}
 use Rattle.std.specs.Prelude.{nat_le}
 use Rattle.std.specs.Option.{option_map}
 use Rattle.std.proofs.lemmas.Bool.{and_parts, cases_Bool, false_from_ne_true, eqb-true}
@@ -20,7 +20,6 @@ use Rattle.vbm_intent.specs.declared.change.Change.{Change}
 use Rattle.vbm_intent.specs.declared.log.Log.{Log}
 use Rattle.vbm_intent.specs.Changes.{of_file, changed}
 use Rattle.vbm_world.specs.declared.command.Command.TheVariants.{CreateMedium}
-use Rattle.vbm_world.specs.declared.command.Answer.{Answer}
 use Rattle.vbm_world.specs.declared.command.Answer.TheVariants.{Id}
 use Rattle.vbm_world.specs.declared.command.Size.{Size}
 use Rattle.vbm_named.specs.Names.{Name, has_name, put_by}
@@ -30,32 +29,36 @@ use Rattle.vbm_world.specs.Refusals.{capacity_of, is_bad_size, first_refusal}
 use Rattle.vbm_world.specs.Media.{create_checks, made_medium}
 use Rattle.vbm_world.specs.Outcomes.{Outcome, refused_or}
 use Rattle.vbm_world.specs.Step.{step_of}
-use Rattle.vbm_named.proofs.Lists.{name_sym, put_map}
-use Rattle.vbm_registry.specs.declared.media.Medium.{Medium}
+use Rattle.vbm_named.proofs.Lists.{name_sym, All-every}
 use Rattle.vbm_registry.specs.declared.library.Library.{Library}
-use Rattle.vbm_registry.specs.Library.{library_name, medium_entry_name, IsPlain}
+use Rattle.vbm_registry.specs.Library.{library_name, medium_entry_name}
+use Rattle.vbm_registry.specs.Named.{NamedLibrary, named as library_named}
+use Rattle.vbm_standing.specs.ChainDisks.{inner_file}
 use Rattle.vbm_standing.specs.Headers.{shelved_file, header_in}
-use Rattle.vbm_standing.specs.Meaning.{none_changed, none_runs, medium_in, shelf_in, world_of, world_with}
-use Rattle.vbm_standing.specs.Faults.{id_in, IsStore}
-use Rattle.vbm_standing.specs.Stands.{read_library, library_file, library_of}
-use Rattle.vbm_registry.specs.Named.{named as library_named}
-use Rattle.vbm_registry.proofs.PlainFiles.{plain_again}
-use Rattle.vbm_standing.proofs.HeaderFacts.{header_frame, header_of_file}
-use Rattle.vbm_standing.proofs.Stores.{SameFiles, SameBesides, same_media, own_of_file, store_put, library_put}
-use Rattle.vbm_standing.proofs.Worlds.{is_medium_with, drawn_foreign, drawn_known, foreign_new, on_shelf, medium_of_file, with_shelved_none, world_put}
+use Rattle.vbm_standing.specs.Meaning.{medium_in, is_made, shelf_in, world_of}
+use Rattle.vbm_standing.specs.Faults.{id_in}
+use Rattle.vbm_standing.proofs.HeaderFacts.{header_of_file}
+use Rattle.vbm_standing.proofs.InnerFileNames.{inner_named_so}
+use Rattle.vbm_standing.proofs.MediaWorlds.{SameOthers}
+use Rattle.vbm_standing.proofs.Stores.{own_of_file}
+use Rattle.vbm_standing.proofs.WorldLookups.{is_medium-world, foreign-new, is_on_shelf}
+use Rattle.vbm_standing.proofs.Worlds.{drawn_foreign, drawn_known, with_shelved_none}
 use Rattle.vbm_store.specs.declared.store.Store.{Store}
-use Rattle.vbm_store.specs.declared.images.Edit.{Edit}
-use Rattle.vbm_store.specs.Edits.{edited}
+use Rattle.vbm_store.specs.declared.store.Image.{Image}
+use Rattle.vbm_store.specs.declared.images.Edit.TheVariants.{Put}
+use Rattle.vbm_store.specs.Edits.{store_after}
 use Rattle.vbm_store.specs.declared.decision.Turn.{Turn}
 use Rattle.vbm_store.specs.Plans.{library_changes, image_changes}
 use Rattle.vbm_media.specs.Creates.{first_check, CanCreate, new_entry, library_made as made_library, IsNewMedium, MayCreate, Creates}
-use Rattle.vbm_store.specs.Serves.{image_name, image_in, serves, IsSoundStore, Holds}
+use Rattle.vbm_store.specs.Serves.{image_name, image_files, serves, changed_of, running_of, IsWritable, IsSoundStore, Holds}
 use Rattle.vbm_store.specs.Kept.{KeepsBytes}
 use Rattle.vbm_store.specs.Steps.{Manages, Plans, IsSoundTurn}
-use Rattle.vbm_store.proofs.Keeping.{kept_media}
-use Rattle.vbm_store.proofs.Turning.{manages}
-use Rattle.vbm_store.proofs.Decisions.{medium_not_library, inner_not_library}
-use Rattle.vbm_store.proofs.Planned.{library_made, library_frame, library_fits, image_alone, image_made, image_fits, image_frame}
+use Rattle.vbm_store.proofs.Keeping.{kept_images}
+use Rattle.vbm_store.proofs.Turning.{quiet_if_written, manages}
+use Rattle.vbm_store.proofs.Decisions.{medium_not_library, inner_not_library, image_not_library}
+use Rattle.vbm_store.proofs.GoneMedia.{inner_other}
+use Rattle.vbm_store.proofs.Planned.{library_frame, library_fits, image_alone, image_made, image_fits, image_frame}
+use Rattle.vbm_store.proofs.PutMedia.{IsComing, put_writable, put_images, put_medium, put_holds, put_serves}
 
 -- ---- names
 
@@ -91,29 +94,33 @@ same_unless : (a b c d e f : Bool) → (a ≡ false → b ≡ c) → first_check
 same_unless true b c d e f same = refl
 same_unless false b c d e f same = ap (λ x. first_check false x d e f) (same refl)
 
-pub refusal_is : (l : Library) (files : Files) (name : Name) (capacity : ℕ) → IsPlain l → IsTrue (is_medium_name name)
-    → first_check (has_name medium_entry_name name l.media) (is_some (files name)) (is_bad_size capacity) (nat_le MEDIA_LIMIT (length l.media)) (nat_le NUMBER_LIMIT l.next)
-    ≡ first_refusal (create_checks (world_with none_changed none_runs l files) name capacity)
+-- nothing is being made
+pub unmade : (l : Library) (name : Name) → IsWritable l → is_made l.making name ≡ false
+unmade l name is = ap (λ o. is_made o name) (quiet_if_written l is).making
+
+pub refusal_is : (e : Store) (files : Files) (name : Name) (capacity : ℕ) → IsSoundStore e → IsTrue (is_medium_name name)
+    → first_check (has_name medium_entry_name name e.library.media) (is_some (files name)) (is_bad_size capacity)
+    (nat_le MEDIA_LIMIT (length e.library.media)) (nat_le NUMBER_LIMIT e.library.next)
+    ≡ first_refusal (create_checks (serves e files) name capacity)
 unfolding world_of
-refusal_is l files name capacity plain named =
-    let shelf : has_name medium_entry_name name l.media ≡ false → is_some (files name) ≡ is_some (shelf_in (library_named l) files name) =
-    λ none. sym (ap is_some (on_shelf (library_named l) files name named none plain.making) ∙ some_map shelved_file (files name)) in
-    rw (is_medium_with none_changed none_runs (library_named l) files name, length-map l.media (medium_in none_changed (library_named l) files))
+refusal_is e files name capacity sound named =
+    let l = library_named e.library in
+    let shelf : has_name medium_entry_name name l.media ≡ false → is_some (files name) ≡ is_some (shelf_in l files name) =
+    λ none. sym (ap is_some (is_on_shelf l files name named none (unmade e.library name sound.library)) ∙ some_map shelved_file (files name)) in
+    rw (is_medium-world (changed_of e) (running_of e) l files name, length-map l.media (medium_in (changed_of e) l files))
     (same_unless (has_name medium_entry_name name l.media) _ _ _ _ _ shelf)
 
 -- ---- the library and the images
 
-pub made_is_library : (l : Library) (name : Name) (capacity : ℕ) → IsPlain l → IsTrue (is_medium_name name) → CanCreate l name capacity
-    → IsPlain (made_library l name)
-made_is_library l name capacity is named can =
-    library_put l (new_entry name) (l.next + 1) is (record { name = named; mode = refl }) can.new can.room (omega (arith, can.next))
+pub made_writable : (l : Library) (name : Name) (capacity : ℕ) → IsWritable l → IsTrue (is_medium_name name) → CanCreate l name capacity
+    → IsWritable (made_library l name)
+made_writable l name capacity is named can =
+    put_writable l (new_entry name) (l.next + 1) is (quiet_if_written l is).making can.new named refl can.room (omega arith) (omega (arith, can.next))
 
-pub made_images : (e : Store) (name : Name) (h : Header) → IsSoundStore e
-    → map image_name (put_by image_name (record { name = name; header = h }) e.images) ≡ map medium_entry_name (made_library e.library name).media
-made_images e name h sound =
-    put_map image_name image_name (λ n. n) (λ x. refl) (record { name = name; header = h }) e.images
-    ∙ ap (put_by (λ n. n) name) sound.images
-    ∙ sym (put_map medium_entry_name medium_entry_name (λ n. n) (λ x. refl) (new_entry name) e.library.media)
+pub made_images : (e : Store) (name : Name) (h : Header) → IsSoundStore e → IsTrue (is_medium_name name)
+    → map image_name (put_by image_name (record { name = name; header = h }) e.images) ≡ image_files (library_named (made_library e.library name))
+made_images e name h sound named =
+    put_images e.library (new_entry name) (e.library.next + 1) named (record { name = name; header = h }) e.images refl sound.images
 
 -- ---- the files and the world
 
@@ -132,8 +139,8 @@ kept (Some f) (Some g) same = cc
 module _ (files : Files) (e : Store) (name : Name) (size : Size) (h : Header) (sound : IsSoundStore e) (holds : Holds e.library e.images files)
     (named : IsTrue (is_medium_name name)) (can : CanCreate e.library name (capacity_of size)) (absent : files name ≡ None)
     (medium : IsNewMedium e.library (capacity_of size) h) where
-  abbrev l : Library
-  l = e.library
+  abbrev l : NamedLibrary
+  l = library_named e.library
 
   abbrev made : Library
   made = made_library e.library name
@@ -144,15 +151,11 @@ module _ (files : Files) (e : Store) (name : Name) (size : Size) (h : Header) (s
   abbrev now : Files
   now = changed plan files
 
+  abbrev image : Image
+  image = record { name = name; header = h }
+
   alone : of_file library_name (image_changes name h) ≡ []
   alone = image_alone name library_name h (name_sym name library_name ∙ medium_not_library name named)
-
-  made_is_plain : IsPlain made
-  made_is_plain = made_is_library l name (capacity_of size) sound.library named can
-
-  library_now : library_of now ≡ Ok made
-  library_now = ap library_file (library_made (image_changes name h) made files alone)
-      ∙ ap read_library (plain_again made made_is_plain)
 
   file_now : now name ≡ Some (made_image h)
   file_now = library_frame (image_changes name h) made files name (medium_not_library name named) ∙ image_made h medium.new name files medium.dynamic absent
@@ -160,8 +163,12 @@ module _ (files : Files) (e : Store) (name : Name) (size : Size) (h : Header) (s
   same_now : (other : Name) → bytes_eq library_name other ≡ false → bytes_eq name other ≡ false → now other ≡ files other
   same_now other not_library apart = library_frame (image_changes name h) made files other not_library ∙ image_frame name other h files apart
 
-  besides : SameBesides name files now
-  besides other is_name apart = same_now other (medium_not_library other is_name) (name_sym name other ∙ apart)
+  others : SameOthers l name files now
+  others = record {
+    media = λ other is_name apart. same_now other (medium_not_library other is_name) (name_sym name other ∙ apart);
+    inners = All-every _ (λ x. same_now (inner_file l.seed x.number) (inner_not_library (inner_file l.seed x.number) (inner_named_so l.seed x.number))
+        (name_sym name (inner_file l.seed x.number) ∙ inner_other name l.seed x.number named)) l.inners;
+  }
 
   accepted_now : image_of (made_image h) ≡ Ok h
   accepted_now = made_accepted h medium.new
@@ -170,72 +177,66 @@ module _ (files : Files) (e : Store) (name : Name) (size : Size) (h : Header) (s
   header_now = header_of_file now name (made_image h) h file_now accepted_now
 
   new_known : is_foreign l.seed (l.next + 1) h.id ≡ false
-  new_known = ap (is_foreign l.seed (l.next + 1)) medium.id ∙ drawn_known l.seed sound.library.seed.long l.next can.next
+  new_known = ap (is_foreign l.seed (l.next + 1)) medium.id ∙ drawn_known l.seed sound.library.rules.seed.long l.next can.next
 
   new_foreign : is_foreign l.seed l.next (id_in now (new_entry name)) ≡ true
-  new_foreign = ap (is_foreign l.seed l.next) (ap (λ (x : Header). x.id) header_now ∙ medium.id) ∙ drawn_foreign l.seed sound.library.seed.long l.next can.next
+  new_foreign = ap (is_foreign l.seed l.next) (ap (λ (x : Header). x.id) header_now ∙ medium.id)
+      ∙ drawn_foreign l.seed sound.library.rules.seed.long l.next can.next
 
-  same_files : SameFiles files now l.media
-  same_files = same_media l name files now sound.library besides can.new
+  coming : IsComing e (new_entry name) (l.next + 1) image files now (made_image h)
+  coming = record {
+    library = made_writable e.library name (capacity_of size) sound.library named can;
+    new = can.new;
+    named_so = named;
+    others = others;
+    grows = omega arith;
+    same = refl;
+    there = file_now;
+    accepted = accepted_now;
+    file = own_of_file (record l { next = l.next + 1 }) now (new_entry name) (made_image h) h file_now accepted_now
+        (ap is_differencing medium.dynamic) new_known;
+    own = foreign-new l files (id_in now (new_entry name)) holds.store new_foreign;
+  }
 
-  store_now : IsStore (library_named made) now
-  store_now = store_put l files now (new_entry name) (l.next + 1) sound.library.inners holds.store (omega arith) same_files
-      (own_of_file (library_named (record l { next = l.next + 1 })) now (new_entry name) (made_image h) h file_now accepted_now
-      (ap is_differencing medium.dynamic) new_known)
-      (foreign_new l files (id_in now (new_entry name)) holds.store new_foreign)
-
-  images_same : (ms : List Medium) → SameFiles files now ms → map (image_in now) ms ≡ map (image_in files) ms
-  images_same [] same = refl
-  images_same (m ∷ ms) same = rw (header_frame files now m.name same.0, images_same ms same.1) refl
-
-  images_now : put_by image_name (record { name = name; header = h }) e.images ≡ map (image_in now) made.media
-  images_now =
-      ap (put_by image_name (record { name = name; header = h })) (holds.headers ∙ sym (images_same l.media same_files))
-      ∙ ap (λ x. put_by image_name (record { name = name; header = x }) (map (image_in now) l.media)) (sym header_now)
-      ∙ sym (put_map (image_in now) medium_entry_name image_name (λ m. refl) (new_entry name) l.media)
-
-  medium_now : medium_in none_changed (library_named made) now (new_entry name)
-      ≡ made_medium (world_with none_changed none_runs l files) name (capacity_of size) Standard
+  medium_now : put_medium e (new_entry name) (l.next + 1) image files now (made_image h) sound.library.rules coming header_now
+      ≡ made_medium (serves e files) name (capacity_of size) Standard
   unfolding world_of zero_disk
-  medium_now =
-      medium_of_file none_changed made now (new_entry name) (made_image h) h made_is_plain file_now accepted_now
-      ∙ rw (made_flat h medium.new, medium.dynamic, medium.id, medium.modify, medium.capacity_is) refl
+  medium_now = rw (made_flat h medium.new, medium.dynamic, medium.id, medium.modify, medium.capacity_is) refl
 
-  no_shelf : (world_with none_changed none_runs l files).shelf name ≡ None
+  no_shelf : (serves e files).shelf name ≡ None
   unfolding world_of
-  no_shelf = on_shelf (library_named l) files name named can.new sound.library.making ∙ ap (option_map shelved_file) absent
+  no_shelf = is_on_shelf l files name named can.new (unmade e.library name sound.library) ∙ ap (option_map shelved_file) absent
 
-  world_now : world_with none_changed none_runs made now ≡ (let w = world_with none_changed none_runs l files in
+  world_now : (log : Log) → serves (store_after e made (Put image) log) now ≡ (let w = serves e files in
       record w { next = l.next + 1; media = put_by medium_name (made_medium w name (capacity_of size) Standard) w.media })
-  world_now =
-      let w = world_with none_changed none_runs l files in
-      world_put none_changed l files now (new_entry name) (l.next + 1) sound.library besides can.new
+  world_now log =
+      let w = serves e files in
+      put_serves e (new_entry name) (l.next + 1) image files now (made_image h) sound.library.rules coming header_now log
       ∙ (λ i. record w { next = l.next + 1; media = put_by medium_name (medium_now i) w.media; shelf = with_shelved_none w.shelf name no_shelf i })
 
-  step_now : first_refusal (create_checks (serves e files) name (capacity_of size)) ≡ None
-      → (Id h.id, world_with none_changed none_runs made now) ≡ step_of (serves e files) (CreateMedium name size Standard) 0
+  step_now : first_refusal (create_checks (serves e files) name (capacity_of size)) ≡ None → (log : Log)
+      → (Id h.id, serves (store_after e made (Put image) log) now) ≡ step_of (serves e files) (CreateMedium name size Standard) 0
   unfolding world_of
-  step_now none =
-      (λ i. (Id (medium.id i), world_now i))
+  step_now none log =
+      (λ i. (Id (medium.id i), world_now log i))
       ∙ ap (λ o. refused_or (serves e files) o (create_outcome (serves e files) name (capacity_of size))) (sym none)
 
   pub created : first_refusal (create_checks (serves e files) name (capacity_of size)) ≡ None → (log : Log)
-      → Manages files e (CreateMedium name size Standard) plan
-      (record { library = made; images = put_by image_name (record { name = name; header = h }) e.images; log = log }) (Id h.id)
-  created none log = manages files e (CreateMedium name size Standard) plan
-      (record { library = made; images = put_by image_name (record { name = name; header = h }) e.images; log = log }) (Id h.id)
+      → Manages files e (CreateMedium name size Standard) plan (store_after e made (Put image) log) (Id h.id)
+  created none log = manages files e (CreateMedium name size Standard) plan (store_after e made (Put image) log) (Id h.id)
       (record {
-        library = made_is_plain;
-        images = made_images e name h sound;
+        library = made_writable e.library name (capacity_of size) sound.library named can;
+        images = made_images e name h sound named;
       })
       (library_fits (image_changes name h) made files alone (image_fits h medium.new name files absent))
-      (record { read = library_now; store = store_now; headers = images_now })
-      (step_now none)
-      (kept_media l made files now sound.library (λ other is_name. elim (cases_Bool (bytes_eq name other)) [
+      (put_holds e (new_entry name) (l.next + 1) image files now (made_image h) sound.library.rules coming header_now (image_changes name h) files refl
+      alone holds)
+      (step_now none log)
+      (kept_images e.library made files now sound.library.rules (λ other is_name. elim (cases_Bool (bytes_eq name other)) [
         | inl is ↦
             let same : name ≡ other = (bytes_eq-Decides name other).0 is in
             subst (λ o. KeepsBytes o (now other)) (sym (ap files (sym same) ∙ absent)) tt
-        | inr apart ↦ kept (files other) (now other) (same_now other (medium_not_library other is_name) apart)
+        | inr apart ↦ kept (files other) (now other) (same_now other (image_not_library other is_name) apart)
       ]))
       (λ other inner unlisted gone. same_now other (inner_not_library other inner) (false_from_ne_true _ (λ is.
       let same : name ≡ other = (bytes_eq-Decides name other).0 is in
@@ -256,4 +257,4 @@ pub turned_sound : (e : Store) (name : Name) (capacity : ℕ) (turn : Turn) → 
     → Creates e name capacity turn → IsSoundTurn e turn
 turned_sound e name capacity turn sound named can creates =
     rw (creates.made, creates.placed)
-    (made_is_library e.library name capacity sound.library named can, made_images e name creates.header sound)
+    (made_writable e.library name capacity sound.library named can, made_images e name creates.header sound named)

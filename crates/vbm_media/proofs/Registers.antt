@@ -1,6 +1,7 @@
 -- Opening a medium.
 use Rattle.std.proofs.Common.{◌≡◌, ℕ, ◌<◌, Bool, true, false, List, [], map, length, Option, Some, None, Result, Ok, Err, refl, sym, ap, subst, ◌∙◌, arith, cond, is_some, IsTrue}
 use Rattle.std.specs.Prelude.{nat_le}
+use Rattle.std.specs.List.{list_any}
 use Rattle.std.specs.Option.{option_map}
 use Rattle.std.specs.Str.{bytes_eq}
 use Rattle.std.proofs.lemmas.Bool.{leb-false}
@@ -16,18 +17,21 @@ use Rattle.vbm_intent.specs.declared.log.Log.{Log}
 use Rattle.vbm_intent.specs.Changes.{changed}
 use Rattle.vbm_registry.specs.declared.media.Medium.{Medium}
 use Rattle.vbm_registry.specs.declared.library.Library.{Library}
-use Rattle.vbm_registry.specs.Library.{library_name, medium_entry_name, with_entry, IsPlain}
+use Rattle.vbm_registry.specs.Library.{library_name, medium_entry_name}
+use Rattle.vbm_registry.specs.Named.{NamedLibrary, named as library_named}
+use Rattle.vbm_registry.specs.Renumbered.{with_medium_entry}
+use Rattle.vbm_standing.specs.ChainDisks.{inner_file}
 use Rattle.vbm_standing.specs.Headers.{header_in, shelved_file, shelved_image}
-use Rattle.vbm_standing.specs.Meaning.{none_changed, none_runs, medium_in, world_of, world_with}
+use Rattle.vbm_standing.specs.Meaning.{medium_in, world_of}
 use Rattle.vbm_standing.specs.Faults.{id_in}
-use Rattle.vbm_standing.specs.Stands.{library_file, read_library}
-use Rattle.vbm_registry.specs.Named.{named as library_named}
-use Rattle.vbm_registry.proofs.PlainFiles.{plain_again}
-use Rattle.vbm_standing.proofs.HeaderFacts.{header_frame, header_of_file}
-use Rattle.vbm_standing.proofs.Stores.{SameBesides, SameFiles, same_media, own_of_file, store_put, library_put}
-use Rattle.vbm_standing.proofs.Worlds.{is_medium_with, has_id_with, on_shelf, shelved_of_file, medium_of_file, world_put}
+use Rattle.vbm_standing.proofs.HeaderFacts.{header_of_file}
+use Rattle.vbm_standing.proofs.InnerFileNames.{inner_named_so}
+use Rattle.vbm_standing.proofs.MediaWorlds.{SameOthers}
+use Rattle.vbm_standing.proofs.Stores.{own_of_file}
+use Rattle.vbm_standing.proofs.WorldLookups.{is_medium-world, has_id-world, is_on_shelf}
+use Rattle.vbm_standing.proofs.Worlds.{shelved_of_file}
 use Rattle.vbm_named.specs.Names.{Name, find_by, has_name, put_by}
-use Rattle.vbm_world.specs.World.{World, medium_id, medium_name, with_shelved}
+use Rattle.vbm_world.specs.World.{World, medium_id}
 use Rattle.vbm_ids.specs.Identifier.{is_foreign, has_id}
 use Rattle.vbm_world.specs.declared.limits.TheConstants.{MEDIA_LIMIT}
 use Rattle.vbm_world.specs.Refusals.{first_refusal, is_full}
@@ -39,23 +43,27 @@ use Rattle.vbm_world.specs.declared.command.Answer.TheVariants.{Id, Refused}
 use Rattle.vbm_world.specs.declared.command.Command.TheVariants.{OpenMedium}
 use Rattle.vbm_world.specs.declared.command.Refusal.{Refusal}
 use Rattle.vbm_world.specs.declared.command.Refusal.TheVariants.{NameTaken, NoSuchFile, NotAnImage}
-use Rattle.vbm_named.proofs.Lists.{All-map, has_found, any_map, put_map}
+use Rattle.vbm_named.proofs.Lists.{All-every, has_found, any_map}
 use Rattle.vbm_store.specs.declared.store.Store.{Store}
 use Rattle.vbm_store.specs.declared.image.OpenFault.{OpenFault}
 use Rattle.vbm_store.specs.declared.image.OpenFault.TheVariants as faults
+use Rattle.vbm_store.specs.declared.images.Edit.TheVariants.{Put}
 use Rattle.vbm_store.specs.declared.store.Image.{Image}
+use Rattle.vbm_store.specs.Edits.{store_after}
 use Rattle.vbm_media.specs.Creates.{new_entry}
 use Rattle.vbm_store.specs.Images.{IsRead, OpensImage}
 use Rattle.vbm_store.specs.Plans.{library_changes}
 use Rattle.vbm_media.specs.Registers.{image_checks, undone_by}
-use Rattle.vbm_store.specs.Serves.{image_id, serves, image_name, image_in, IsSoundStore, Holds}
+use Rattle.vbm_store.specs.Serves.{image_id, serves, changed_of, running_of, image_name, image_in, image_files, media_images, IsWritable, IsSoundStore, Holds}
 use Rattle.vbm_store.specs.Kept.{KeepsBytes}
 use Rattle.vbm_store.specs.Steps.{Manages, Answers, Refuses}
-use Rattle.vbm_store.proofs.Keeping.{kept_media}
-use Rattle.vbm_store.proofs.Turning.{manages}
-use Rattle.vbm_store.proofs.Decisions.{medium_not_library, inner_not_library, kept_or}
-use Rattle.vbm_store.proofs.Planned.{library_made, library_frame, library_fits}
-use Rattle.vbm_store.proofs.Readiness.{images_same}
+use Rattle.vbm_store.proofs.Keeping.{kept_images}
+use Rattle.vbm_store.proofs.Listing.{media_first}
+use Rattle.vbm_store.proofs.Turning.{quiet_if_written, manages}
+use Rattle.vbm_store.proofs.Decisions.{medium_not_library, inner_not_library, image_not_library, kept_or}
+use Rattle.vbm_store.proofs.Planned.{library_frame, library_fits}
+use Rattle.vbm_store.proofs.PutMedia.{IsComing, put_writable, put_images, put_holds, put_serves}
+use Rattle.vbm_media.proofs.Creating.{unmade}
 
 passes : (b : Bool) (refusal : Refusal) (o : Option Refusal) → cond b (Some refusal) o ≡ None → (b ≡ false) × (o ≡ None)
 passes true refusal o e = absurd cc
@@ -95,28 +103,36 @@ refuses e files name refusal by = (by, λ u. ap (λ (o : Outcome). cond (is_refu
 
 pub opens_taken : (e : Store) (files : Files) (name : Name) (m : Medium) → find_by medium_entry_name name e.library.media ≡ Some m
     → Answers files e (OpenMedium name) (Refused NameTaken)
-opens_taken e files name m is = refuses e files name NameTaken
-    (rw (is_medium_with none_changed none_runs (library_named e.library) files name ∙ has_found medium_entry_name name e.library.media ∙ ap is_some is) refl)
+opens_taken e files name m is = refuses e files name NameTaken (rw (is_medium-world (changed_of e) (running_of e) (library_named e.library) files name
+    ∙ has_found medium_entry_name name e.library.media ∙ ap is_some is) refl)
 
-pub images_more : (e : Store) (image : Image) → IsSoundStore e
-    → map image_name (put_by image_name image e.images) ≡ map medium_entry_name (put_by medium_entry_name (new_entry image.name) e.library.media)
-images_more e image sound =
-    put_map image_name image_name (λ n. n) (λ x. refl) image e.images
-    ∙ ap (put_by (λ n. n) image.name) sound.images
-    ∙ sym (put_map medium_entry_name medium_entry_name (λ n. n) (λ x. refl) (new_entry image.name) e.library.media)
+-- the library with the medium of an image
+abbrev library_opened : Library → Name → Library
+library_opened l name = with_medium_entry l (new_entry name)
 
-pub library_more : (e : Store) (h : Header) (name : Name) → first_refusal (image_checks e.library e.images h) ≡ None → IsPlain e.library
-    → IsTrue (is_medium_name name) → has_name medium_entry_name name e.library.media ≡ false → IsPlain (with_entry e.library (new_entry name))
+pub images_more : (e : Store) (image : Image) → IsSoundStore e → IsTrue (is_medium_name image.name)
+    → map image_name (put_by image_name image e.images) ≡ image_files (library_named (library_opened e.library image.name))
+images_more e image sound named =
+    put_images e.library (new_entry image.name) e.library.next named image e.images refl sound.images
+
+pub library_more : (e : Store) (h : Header) (name : Name) → first_refusal (image_checks e.library (media_images e) h) ≡ None → IsWritable e.library
+    → IsTrue (is_medium_name name) → has_name medium_entry_name name e.library.media ≡ false → IsWritable (library_opened e.library name)
 library_more e h name allowed lib named free =
-    library_put e.library (new_entry name) e.library.next lib (record { name = named; mode = refl }) free
-    (welcome e.library e.images h allowed).room lib.next
+    put_writable e.library (new_entry name) e.library.next lib (quiet_if_written e.library lib).making free named refl
+    (welcome e.library (media_images e) h allowed).room (omega arith) lib.rules.next
 
 module _ (e : Store) (files : Files) (name : Name) (holds : Holds e.library e.images files) (sound : IsSoundStore e)
     (named : IsTrue (is_medium_name name)) (free : has_name medium_entry_name name e.library.media ≡ false) where
+  abbrev l : NamedLibrary
+  l = library_named e.library
+
   opens : step_of (serves e files) (OpenMedium name) 0 ≡ (let shelved = option_map shelved_file (files name) in
       refused_or (serves e files) (first_refusal (file_checks (serves e files) shelved)) (opened (serves e files) name shelved))
   unfolding world_of
-  opens = rw (is_medium_with none_changed none_runs (library_named e.library) files name ∙ free, on_shelf (library_named e.library) files name named free sound.library.making) refl
+  opens = rw (
+    is_medium-world (changed_of e) (running_of e) l files name ∙ free,
+    is_on_shelf l files name named free (unmade e.library name sound.library),
+  ) refl
 
   pub opens_missing : files name ≡ None → Answers files e (OpenMedium name) (Refused NoSuchFile)
   opens_missing none = refuses e files name NoSuchFile (sym (opens ∙ rw none refl))
@@ -134,44 +150,45 @@ module _ (e : Store) (files : Files) (name : Name) (holds : Holds e.library e.im
   not_opened faults.Failed told = tt
   not_opened faults.NoMemory told = tt
 
-  has_id_here : (id : List ℕ) → has_id medium_id id (serves e files).media ≡ has_id image_id id e.images
+  has_id_here : (id : List ℕ) → has_id medium_id id (serves e files).media ≡ has_id image_id id (media_images e)
   has_id_here id =
-      has_id_with none_changed none_runs (library_named e.library) files id
-      ∙ sym (ap (has_id image_id id) holds.headers
-      ∙ any_map (image_in files) (λ (i : Image). bytes_eq i.header.id id) e.library.media)
+      has_id-world (changed_of e) (running_of e) l files id
+      ∙ sym (ap (has_id image_id id) (media_first e files holds)
+      ∙ any_map (image_in files) (λ (i : Image). bytes_eq i.header.id id) (map medium_entry_name e.library.media)
+      ∙ any_map medium_entry_name (λ n. bytes_eq (header_in files n).id id) e.library.media)
 
   full_here : is_full (serves e files) ≡ nat_le MEDIA_LIMIT (length e.library.media)
   unfolding world_of
-  full_here = ap (nat_le MEDIA_LIMIT) (length-map e.library.media (medium_in none_changed (library_named e.library) files))
+  full_here = ap (nat_le MEDIA_LIMIT) (length-map e.library.media (medium_in (changed_of e) l files))
 
   module _ (h : Header) (read : IsRead (files name) (Ok h)) where
     f : IsFile files name (Ok h)
     f = file_read files name (Ok h) (files name) refl read
 
     checks : (d : Bool) → is_differencing h.image_type ≡ d
-        → first_refusal (file_checks (serves e files) (Some (shelved_image f.file (Ok h)))) ≡ first_refusal (image_checks e.library e.images h)
+        → first_refusal (file_checks (serves e files) (Some (shelved_image f.file (Ok h)))) ≡ first_refusal (image_checks e.library (media_images e) h)
     unfolding world_of
     checks true is = rw (is, has_id_here h.id, full_here) refl
     checks false is = rw (is, has_id_here h.id, full_here) refl
 
     opens_image : step_of (serves e files) (OpenMedium name) 0
-        ≡ refused_or (serves e files) (first_refusal (image_checks e.library e.images h))
+        ≡ refused_or (serves e files) (first_refusal (image_checks e.library (media_images e) h))
         (opened (serves e files) name (Some (shelved_image f.file (Ok h))))
     opens_image = opens ∙ rw (f.there, shelved_of_file f.file (Ok h) f.is, checks (is_differencing h.image_type) refl) refl
 
-    pub opens_refused : (refusal : Refusal) → first_refusal (image_checks e.library e.images h) ≡ Some refusal
+    pub opens_refused : (refusal : Refusal) → first_refusal (image_checks e.library (media_images e) h) ≡ Some refusal
         → Answers files e (OpenMedium name) (Refused refusal)
     opens_refused refusal is = refuses e files name refusal (sym (opens_image ∙ rw is refl))
 
-    module _ (allowed : first_refusal (image_checks e.library e.images h) ≡ None) where
-      is_welcome : IsWelcome e.library e.images h
-      is_welcome = welcome e.library e.images h allowed
+    module _ (allowed : first_refusal (image_checks e.library (media_images e) h) ≡ None) where
+      is_welcome : IsWelcome e.library (media_images e) h
+      is_welcome = welcome e.library (media_images e) h allowed
 
       abbrev more : Library
-      more = with_entry e.library (new_entry name)
+      more = library_opened e.library name
 
-      is_plain : IsPlain more
-      is_plain = library_more e h name allowed sound.library named free
+      abbrev image : Image
+      image = record { name = name; header = h }
 
       abbrev now : Files
       now = changed (library_changes more) files
@@ -179,52 +196,49 @@ module _ (e : Store) (files : Files) (name : Name) (holds : Holds e.library e.im
       frame : (n : Name) → bytes_eq library_name n ≡ false → now n ≡ files n
       frame n other = library_frame [] more files n other
 
-      others : SameBesides name files now
-      others n is differs = frame n (medium_not_library n is)
+      others : SameOthers l name files now
+      others = record {
+        media = λ n is differs. frame n (medium_not_library n is);
+        inners = All-every _
+            (λ x. frame (inner_file l.seed x.number) (inner_not_library (inner_file l.seed x.number) (inner_named_so l.seed x.number))) l.inners;
+      }
 
       here : now name ≡ Some f.file
       here = frame name (medium_not_library name named) ∙ f.there
 
-      same : SameFiles files now e.library.media
-      same = same_media e.library name files now sound.library others free
-
       header : header_in now name ≡ h
       header = header_of_file now name f.file h here f.is
 
-      more_holds : Holds more (put_by image_name (record { name = name; header = h }) e.images) now
-      more_holds = record {
-        read = ap library_file (library_made [] more files refl) ∙ ap read_library (plain_again more is_plain);
-        store = store_put e.library files now (new_entry name) e.library.next sound.library.inners holds.store (omega arith) same
-            (own_of_file (library_named e.library) now (new_entry name) f.file h here f.is is_welcome.whole is_welcome.known)
-            (rw (id_in, header) (sym (has_id_with none_changed none_runs (library_named e.library) files h.id) ∙ has_id_here h.id ∙ is_welcome.new));
-        headers = rw (sym header) (ap (put_by image_name (image_in now (new_entry name))) (holds.headers
-            ∙ sym (images_same files now e.library.media (All-map _ _ (λ m is. header_frame files now m.name is) e.library.media same)))
-            ∙ sym (put_map (image_in now) medium_entry_name image_name (λ m. refl) (new_entry name) e.library.media));
+      coming : IsComing e (new_entry name) e.library.next image files now f.file
+      coming = record {
+        library = library_more e h name allowed sound.library named free;
+        new = free;
+        named_so = named;
+        others = others;
+        grows = omega arith;
+        same = refl;
+        there = here;
+        accepted = f.is;
+        file = own_of_file l now (new_entry name) f.file h here f.is is_welcome.whole is_welcome.known;
+        own = ap (λ (x : Header). list_any (λ (n : Medium). bytes_eq (id_in files n) x.id) l.media) header
+            ∙ sym (has_id-world (changed_of e) (running_of e) l files h.id) ∙ has_id_here h.id ∙ is_welcome.new;
       }
 
-      more_by : (Id h.id, world_with none_changed none_runs more now) ≡ step_of (serves e files) (OpenMedium name) 0
+      more_by : (log : Log) → (Id h.id, serves (store_after e more (Put image) log) now) ≡ step_of (serves e files) (OpenMedium name) 0
       unfolding world_of
-      more_by =
-          let w = world_with none_changed none_runs e.library files in
-          rw (opens_image, allowed, is_welcome.whole) (ap (λ (v : World). (Id h.id, v))
-          (world_put none_changed e.library files now (new_entry name) e.library.next sound.library others free
-          ∙ ap (λ m. record w { media = put_by medium_name m w.media; shelf = with_shelved w.shelf name None })
-          (medium_of_file none_changed more now (new_entry name) f.file h is_plain here f.is)))
+      more_by log = rw (opens_image, allowed, is_welcome.whole) (ap (λ (v : World). (Id h.id, v))
+          (put_serves e (new_entry name) e.library.next image files now f.file sound.library.rules coming header log))
 
-      opens_more : (log : Log) → Manages files e (OpenMedium name) (library_changes more)
-          (record { library = more; images = put_by image_name (record { name = name; header = h }) e.images; log = log }) (Id h.id)
-      opens_more log = manages files e (OpenMedium name) (library_changes more)
-          (record { library = more; images = put_by image_name (record { name = name; header = h }) e.images; log = log }) (Id h.id)
-          (record {
-            library = is_plain;
-            images = images_more e (record { name = name; header = h }) sound;
-          })
-          (library_fits [] more files refl (λ n. tt)) more_holds more_by
-          (kept_media e.library more files now sound.library
-          (λ n is. subst (KeepsBytes (files n)) (sym (frame n (medium_not_library n is))) (kept_or (files n) false)))
+      opens_more : (log : Log) → Manages files e (OpenMedium name) (library_changes more) (store_after e more (Put image) log) (Id h.id)
+      opens_more log = manages files e (OpenMedium name) (library_changes more) (store_after e more (Put image) log) (Id h.id)
+          (record { library = library_more e h name allowed sound.library named free; images = images_more e image sound named })
+          (library_fits [] more files refl (λ n. tt))
+          (put_holds e (new_entry name) e.library.next image files now f.file sound.library.rules coming header [] files refl refl holds)
+          (more_by log)
+          (kept_images e.library more files now sound.library.rules
+          (λ n is. subst (KeepsBytes (files n)) (sym (frame n (image_not_library n is))) (kept_or (files n) false)))
           (λ n inner unlisted none. frame n (inner_not_library n inner) ∙ none)
 
-      pub registers : (k : Library) (images : List Image) (changes : List Change) → k ≡ more
-          → images ≡ put_by image_name (record { name = name; header = h }) e.images → changes ≡ library_changes more
-          → (log : Log) → Manages files e (OpenMedium name) changes (record { library = k; images = images; log = log }) (Id h.id)
-      registers k images changes k_is images_are changes_are log = rw (k_is, images_are, changes_are) (opens_more log)
+      pub registers : (k : Library) (changes : List Change) → k ≡ more → changes ≡ library_changes more
+          → (log : Log) → Manages files e (OpenMedium name) changes (store_after e k (Put image) log) (Id h.id)
+      registers k changes k_is changes_are log = rw (k_is, changes_are) (opens_more log)

@@ -1,5 +1,5 @@
 -- What the making of a medium is made of.
-use Rattle.std.specs.Prelude.{◌≡◌, ℕ, ◌+◌, ◌<◌, Bool, List, [], ◌∷◌, ◌++◌, length, Option, None, false}
+use Rattle.std.specs.Prelude.{◌≡◌, ℕ, ◌+◌, ◌<◌, Bool, [], ◌∷◌, ◌++◌, length, Option, None, false}
 use Rattle.vbm_ports.specs.Files.{Files}
 use Rattle.vbm_header.specs.declared.Header.{Header}
 use Rattle.vbm_header.specs.declared.ImageType.TheVariants.{Dynamic}
@@ -18,7 +18,8 @@ use Rattle.vbm_world.specs.Refusals.{first_refusal, is_bad_size}
 use Rattle.vbm_world.specs.Media.{create_checks}
 use Rattle.vbm_registry.specs.declared.media.Medium.{Medium}
 use Rattle.vbm_registry.specs.declared.library.Library.{Library}
-use Rattle.vbm_registry.specs.Library.{medium_entry_name, with_entry}
+use Rattle.vbm_registry.specs.Library.{medium_entry_name}
+use Rattle.vbm_registry.specs.Renumbered.{with_medium_entry}
 use Rattle.vbm_store.specs.declared.store.Store.{Store}
 use Rattle.vbm_store.specs.declared.images.Edit.TheVariants.{Put}
 use Rattle.vbm_store.specs.declared.decision.Turn.{Turn}
@@ -43,7 +44,7 @@ new_entry name = record { name = name; mode = Normal }
 
 -- the library with a new medium, for which one number more is drawn
 abbrev pub library_made : Library → Name → Library
-library_made l name = with_entry (record l { next = l.next + 1 }) (new_entry name)
+library_made l name = with_medium_entry (record l { next = l.next + 1 }) (new_entry name)
 
 -- the header of the image of the library's next medium
 pub record IsNewMedium (l : Library) (capacity : ℕ) (h : Header) : Type 0 where

@@ -17,9 +17,9 @@ use Rattle.vbm_store.specs.declared.store.Image.{Image}
 use Rattle.vbm_store.specs.declared.store.Store.{Store}
 use Rattle.vbm_store.specs.declared.undone.Undone.{Undone}
 use Rattle.vbm_store.specs.declared.undone.Undone.TheVariants as undone
-use Rattle.vbm_store.specs.Serves.{image_id}
+use Rattle.vbm_store.specs.Serves.{image_id, media_images}
 
--- An image has an identifier of its own, and none that the library may yet give; there is room; and it needs no parent.
+-- An image has an identifier that no medium's image has, and none that the library may yet give; there is room; and it needs no parent.
 abbrev pub image_checks : Library → List Image → Header → List Check
 image_checks l images h =
     (has_id image_id h.id images, DuplicateId)
@@ -31,7 +31,7 @@ image_checks l images h =
 -- an image that may become a medium under its name
 pub record CanOpen (e : Store) (image : Image) : Type 0 where
   pub free : has_name medium_entry_name image.name e.library.media ≡ false
-  pub allowed : first_refusal (image_checks e.library e.images image.header) ≡ None
+  pub allowed : first_refusal (image_checks e.library (media_images e) image.header) ≡ None
 
 -- what comes of it that a file is not opened
 abbrev pub undone_by : OpenFault → Undone Refusal

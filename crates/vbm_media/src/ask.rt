@@ -3,10 +3,13 @@
 ghost use Rattle.std.specs.Prelude.{◌≡◌, false, map, IfOk, IfErr};
 ghost use Rattle.vbm_ports.specs.Files.{Files};
 ghost use Rattle.vbm_registry.specs.Library.{medium_entry_name};
+ghost use Rattle.vbm_registry.specs.Named.{named};
+ghost use Rattle.vbm_registry.specs.Rules.{IsLibrary};
 ghost use Rattle.vbm_standing.specs.Headers.{variant_of as variant_by_type};
+ghost use Rattle.vbm_standing.specs.Meaning.{is_frozen_in};
 ghost use Rattle.vbm_world.specs.declared.command.Command.TheVariants.{ShowMediumInfo, ListHdds};
 ghost use Rattle.vbm_world.specs.declared.command.Answer.TheVariants as answers;
-ghost use Rattle.vbm_store.specs.Serves.{Holds};
+ghost use Rattle.vbm_store.specs.Serves.{IsSoundStore, Holds};
 ghost use Rattle.vbm_store.specs.Undone.{has_failed};
 ghost use Rattle.vbm_store.specs.Steps.{Answers, Refuses};
 
@@ -14,8 +17,8 @@ use std::alloc::Global;
 use vbm_header::ImageType;
 use vbm_named::names::find;
 use vbm_ports::{Names, NoMemory, Text};
-use vbm_registry::{Media, Medium};
-use vbm_store::{Image, Store, Undone};
+use vbm_registry::{Library, Media, Medium};
+use vbm_store::{Image, Store, Undone, is_frozen};
 use vbm_volume::Variant;
 use vbm_world::{Answer, Refusal};
 
@@ -28,10 +31,10 @@ fn variant_of(image_type: ImageType) -> Variant
     }
 }
 
-// No snapshot has a medium yet, so that none is frozen.
-fn info(medium: &Medium, image: &Image) -> Answer
+fn info(library: &Library, medium: &Medium, image: &Image) -> Answer
+    requires { IsLibrary (named library.now) }
     ensures { result ≡ answers.Info image.now.header.id image.now.header.modify medium.now.mode
-        (variant_by_type image.now.header.image_type) image.now.header.capacity false }
+        (variant_by_type image.now.header.image_type) image.now.header.capacity (is_frozen_in (named library.now).machines medium.now) }
 {
     let header = &image.header;
     Answer::Info {
@@ -40,12 +43,13 @@ fn info(medium: &Medium, image: &Image) -> Answer
         mode: medium.mode,
         variant: variant_of(header.image_type),
         capacity: header.capacity,
-        frozen: false,
+        frozen: is_frozen(library, medium),
     }
 }
 
 /// The answer to `showmediuminfo`.
 pub fn answer_show(store: &Store, name: &[u8]) -> Result<Answer, Undone<Refusal>>
+    requires sound { IsSoundStore store.now }
     ensures answer { (files : Files) → Holds store.now.library store.now.images files
         → IfOk result (Answers files store.now (ShowMediumInfo name.now)) }
     ensures refused { (files : Files) → Holds store.now.library store.now.images files
@@ -58,7 +62,7 @@ pub fn answer_show(store: &Store, name: &[u8]) -> Result<Answer, Undone<Refusal>
     let Some(image) = find(store.images.as_slice(), name) else {
         return Err(Undone::Refused(Refusal::NoSuchMedium));
     };
-    Ok(info(medium, image))
+    Ok(info(&store.library, medium, image))
 }
 
 fn media_names(alloc: Global, media: &Media) -> Result<Names, NoMemory>

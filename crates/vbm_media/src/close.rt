@@ -3,12 +3,11 @@
 ghost use Rattle.std.specs.Prelude.{◌≡◌, ◌++◌, Bool, IfOk, IfErr, OnOk, IsTrue, false};
 ghost use Rattle.vbm_ports.specs.Files.{Files};
 ghost use Rattle.vbm_ports.specs.Names.{is_medium_name};
-ghost use Rattle.vbm_registry.specs.Library.{medium_entry_name, without_entry, IsPlain};
-ghost use Rattle.vbm_named.specs.Names.{has_name};
+ghost use Rattle.vbm_registry.specs.Renumbered.{without_medium_entry};
 ghost use Rattle.vbm_world.specs.declared.command.Command.TheVariants.{CloseMedium};
-ghost use Rattle.vbm_media.specs.Closes.{removal};
+ghost use Rattle.vbm_media.specs.Closes.{CanClose, removal};
 ghost use Rattle.vbm_store.specs.Plans.{library_changes};
-ghost use Rattle.vbm_store.specs.Serves.{IsSoundStore, Holds};
+ghost use Rattle.vbm_store.specs.Serves.{IsWritable, IsSoundStore, Holds};
 ghost use Rattle.vbm_store.specs.Undone.{has_failed};
 ghost use Rattle.vbm_store.specs.Steps.{Refuses, Plans, IsSoundTurn};
 
@@ -16,7 +15,7 @@ use std::alloc::Global;
 use vbm_intent::{Change, Plan};
 use vbm_ports::{NoMemory, Text};
 use vbm_registry::Library;
-use vbm_store::{Edit, Store, Turn, Undone, plan_library};
+use vbm_store::{Edit, Store, Turn, Undone, is_in_use, plan_library};
 use vbm_world::{Answer, Refusal};
 
 // Removes the file of a name, where it is asked for.
@@ -38,7 +37,7 @@ fn plan_closing(
     name: &[u8],
     delete: bool,
 ) -> Result<Plan, NoMemory>
-    requires library { IsPlain library.now }
+    requires library { IsWritable library.now }
     requires name { IsTrue (is_medium_name name.now) }
     ensures { IfOk result (λ plan. plan.changes ≡ removal name.now delete ++ library_changes library.now) }
 {
@@ -54,12 +53,13 @@ fn close_entry(
     name: &[u8],
     delete: bool,
 ) -> Result<(Library, Text, Plan), NoMemory>
-    requires library { IsPlain store.now.library }
+    requires library { IsWritable store.now.library }
     requires name { IsTrue (is_medium_name name.now) }
-    ensures library { IfOk result (λ x. x.0 ≡ without_entry store.now.library name.now) }
+    requires can { CanClose store.now.library name.now }
+    ensures library { IfOk result (λ x. x.0 ≡ without_medium_entry store.now.library name.now) }
     ensures name { IfOk result (λ x. x.1 ≡ name.now) }
     ensures plan { IfOk result (λ x. x.2.changes
-        ≡ removal name.now delete ++ library_changes (without_entry store.now.library name.now)) }
+        ≡ removal name.now delete ++ library_changes (without_medium_entry store.now.library name.now)) }
 {
     let library = store.library.without_medium(alloc, name)?;
     let plan = plan_closing(alloc, &library, name, delete)?;
@@ -68,21 +68,25 @@ fn close_entry(
 
 /// Why `closemedium` is refused, if it is.
 pub fn check_close(store: &Store, name: &[u8]) -> Result<(), Undone<Refusal>>
+    requires sound { IsSoundStore store.now }
     ensures refused { (files : Files) → (delete : Bool) → IfErr result (Refuses files store.now (CloseMedium name.now delete)) }
-    ensures found { OnOk result (IsTrue (has_name medium_entry_name name.now store.now.library.media)) }
+    ensures can { OnOk result (CanClose store.now.library name.now) }
     ensures no_fault { has_failed result ≡ false }
 {
-    match store.library.media.find(name) {
-        Some(_) => Ok(()),
-        None => Err(Undone::Refused(Refusal::NoSuchMedium)),
+    let Some(_) = store.library.media.find(name) else {
+        return Err(Undone::Refused(Refusal::NoSuchMedium));
+    };
+    if is_in_use(&store.library, name) {
+        return Err(Undone::Refused(Refusal::InUse));
     }
+    Ok(())
 }
 
-/// The turn of `closemedium`, where no check refuses it. No machine has a medium yet.
+/// The turn of `closemedium`, where no check refuses it.
 pub fn plan_close(alloc: Global, store: &Store, name: &[u8], delete: bool) -> Result<Turn, NoMemory>
     requires sound { IsSoundStore store.now }
     requires name { IsTrue (is_medium_name name.now) }
-    requires found { IsTrue (has_name medium_entry_name name.now store.now.library.media) }
+    requires can { CanClose store.now.library name.now }
     ensures plans { (files : Files) → Holds store.now.library store.now.images files
         → IfOk result (Plans files store.now (CloseMedium name.now delete)) }
     ensures sound { IfOk result (IsSoundTurn store.now) }

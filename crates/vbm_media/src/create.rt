@@ -13,11 +13,12 @@ ghost use Rattle.vbm_world.specs.declared.command.Command.TheVariants as command
 ghost use Rattle.vbm_named.specs.Names.{has_name};
 ghost use Rattle.vbm_world.specs.Refusals.{capacity_of, is_bad_size, first_refusal};
 ghost use Rattle.vbm_world.specs.Media.{create_checks};
-ghost use Rattle.vbm_registry.specs.Library.{medium_entry_name, IsPlain};
-ghost use Rattle.vbm_standing.specs.Meaning.{world_with, none_runs, none_changed};
+ghost use Rattle.vbm_registry.specs.Library.{medium_entry_name};
+ghost use Rattle.vbm_registry.specs.Named.{named};
+ghost use Rattle.vbm_registry.specs.Rules.{IsLibrary};
 ghost use Rattle.vbm_store.specs.Plans.{library_changes, image_changes};
 ghost use Rattle.vbm_store.specs.Undone.{has_failed};
-ghost use Rattle.vbm_store.specs.Serves.{IsSoundStore, Holds};
+ghost use Rattle.vbm_store.specs.Serves.{serves, IsWritable, IsSoundStore, Holds};
 ghost use Rattle.vbm_store.specs.Steps.{Refuses, Plans, IsSoundTurn};
 ghost use Rattle.vbm_media.specs.Creates.{first_check, library_made, CanCreate, IsNewMedium, MayCreate, Creates};
 
@@ -62,22 +63,23 @@ fn first_that_holds(
 
 // Why a medium isn't made, if it isn't.
 fn create_refusal<D: Disk>(
-    library: &Library,
+    store: &Store,
     disk: &mut D,
     name: &[u8],
     size: Size,
 ) -> Result<Option<Refusal>, Failed>
-    requires library { IsPlain library.now }
+    requires sound { IsSoundStore store.now }
     requires name { IsTrue (is_medium_name name.now) }
     ensures answer { D.tells → IfOk result (λ r. r
-        ≡ first_refusal (create_checks (world_with none_changed none_runs library.now (D.state disk.old).files) name.now (capacity_of size))) }
-    ensures can { IfOk result (λ r. r ≡ None → CanCreate library.now name.now (capacity_of size)) }
+        ≡ first_refusal (create_checks (serves store.now (D.state disk.old).files) name.now (capacity_of size))) }
+    ensures can { IfOk result (λ r. r ≡ None → CanCreate store.now.library name.now (capacity_of size)) }
     ensures absent { D.tells → IfOk result (λ r. r ≡ None → (D.state disk.old).files name.now ≡ None) }
     ensures reads { OnlyReads D.tells (D.state disk.old) (D.state disk.new) }
     ensures cause { OnErr result (Rose (D.state disk.old).faults (D.state disk.new).faults) }
     ensures no_fault { IfOk result (λ _. (D.state disk.new).faults ≡ (D.state disk.old).faults) }
 {
     let len = disk.length(name)?;
+    let library = &store.library;
     Ok(first_that_holds(
         library.media.find(name).is_some(),
         len.is_some(),
@@ -103,7 +105,7 @@ pub fn check_create<D: Disk>(
     ensures reads { OnlyReads D.tells (D.state disk.old) (D.state disk.new) }
     ensures faults { IsCounted (has_failed result) (D.state disk.old).faults (D.state disk.new).faults }
 {
-    match create_refusal(&store.library, disk, name, size) {
+    match create_refusal(store, disk, name, size) {
         Ok(None) => Ok(()),
         Ok(Some(refusal)) => Err(Undone::Refused(refusal)),
         Err(Failed) => Err(Undone::Failed),
@@ -125,7 +127,7 @@ fn header_of(library: &Library, capacity: u64, variant: Variant) -> Header
 
 // A copy of the library with a new medium, for which an identifier was drawn.
 fn with_new(alloc: Global, library: &Library, name: &[u8]) -> Result<Library, NoMemory>
-    requires library { IsPlain library.now }
+    requires rules { IsLibrary (named library.now) }
     requires new { IsFalse (has_name medium_entry_name name.now (library.now).media) }
     requires next { (library.now).next < NUMBER_LIMIT }
     ensures { IfOk result (λ l. l ≡ library_made library.now name.now) }
@@ -143,7 +145,7 @@ fn with_new(alloc: Global, library: &Library, name: &[u8]) -> Result<Library, No
 fn plan_of(alloc: Global, name: &[u8], header: &Header, library: &Library) -> Result<Plan, NoMemory>
     requires name { IsTrue (is_medium_name name.now) }
     requires header { IsNewHeader header.now }
-    requires library { IsPlain library.now }
+    requires library { IsWritable library.now }
     ensures { IfOk result (λ plan. plan.changes ≡ image_changes name.now header.now ++ library_changes library.now) }
 {
     let mut plan = Plan::new(alloc);

@@ -5,7 +5,10 @@ ghost use Rattle.vbm_ports.specs.Counts.{IsCounted};
 ghost use Rattle.vbm_ports.specs.Disk.{OnlyReads};
 ghost use Rattle.vbm_ports.specs.Files.{Files};
 ghost use Rattle.vbm_ports.specs.Names.{is_medium_name};
-ghost use Rattle.vbm_registry.specs.Library.{medium_entry_name, with_entry, IsPlain};
+ghost use Rattle.vbm_registry.specs.Library.{medium_entry_name};
+ghost use Rattle.vbm_registry.specs.Named.{named};
+ghost use Rattle.vbm_registry.specs.Renumbered.{with_medium_entry};
+ghost use Rattle.vbm_registry.specs.Rules.{IsLibrary};
 ghost use Rattle.vbm_named.specs.Names.{has_name};
 ghost use Rattle.vbm_world.specs.Refusals.{first_refusal};
 ghost use Rattle.vbm_world.specs.declared.command.Command.TheVariants.{OpenMedium};
@@ -13,7 +16,7 @@ ghost use Rattle.vbm_store.specs.Images.{IsRead};
 ghost use Rattle.vbm_store.specs.Plans.{library_changes};
 ghost use Rattle.vbm_media.specs.Creates.{new_entry};
 ghost use Rattle.vbm_media.specs.Registers.{image_checks, undone_by, CanOpen};
-ghost use Rattle.vbm_store.specs.Serves.{IsSoundStore, Holds, FitsDisk};
+ghost use Rattle.vbm_store.specs.Serves.{media_images, IsWritable, IsSoundStore, Holds, FitsDisk};
 ghost use Rattle.vbm_store.specs.Undone.{has_failed};
 ghost use Rattle.vbm_store.specs.Steps.{Refuses, Plans, IsSoundTurn};
 
@@ -30,9 +33,10 @@ use vbm_world::{Answer, MEDIA_LIMIT, Refusal, Which};
 
 // Why an accepted image is refused.
 fn image_refusal(store: &Store, header: &Header) -> Option<Refusal>
-    ensures { result ≡ first_refusal (image_checks store.now.library store.now.images header.now) }
+    requires { IsSoundStore store.now }
+    ensures { result ≡ first_refusal (image_checks store.now.library (media_images store.now) header.now) }
 {
-    if has_id(store.images.as_slice(), header.id) {
+    if has_id(store.media_images(), header.id) {
         return Some(Refusal::DuplicateId);
     }
     if is_foreign(store.library.seed, store.library.next, header.id) {
@@ -48,9 +52,9 @@ fn image_refusal(store: &Store, header: &Header) -> Option<Refusal>
 }
 
 fn library_with(alloc: Global, library: &Library, name: &[u8]) -> Result<Library, NoMemory>
-    requires sound { IsPlain library.now }
+    requires rules { IsLibrary (named library.now) }
     requires free { IsFalse (has_name medium_entry_name name.now library.now.media) }
-    ensures { IfOk result (λ l. l ≡ with_entry library.now (new_entry name.now)) }
+    ensures { IfOk result (λ l. l ≡ with_medium_entry library.now (new_entry name.now)) }
 {
     let name = Text::new(alloc, name)?;
     library.with_medium(
@@ -63,7 +67,7 @@ fn library_with(alloc: Global, library: &Library, name: &[u8]) -> Result<Library
 }
 
 fn library_plan(alloc: Global, library: &Library) -> Result<Plan, NoMemory>
-    requires library { IsPlain library.now }
+    requires library { IsWritable library.now }
     ensures { IfOk result (λ plan. plan.changes ≡ library_changes library.now) }
 {
     let mut plan = Plan::new(alloc);
@@ -73,11 +77,11 @@ fn library_plan(alloc: Global, library: &Library) -> Result<Plan, NoMemory>
 
 // The library with the image's medium, and the plan.
 fn add_entry(alloc: Global, store: &Store, image: &Image) -> Result<(Library, Plan), NoMemory>
-    requires sound { IsPlain store.now.library }
+    requires rules { IsLibrary (named store.now.library) }
     requires free { IsFalse (has_name medium_entry_name image.now.name store.now.library.media) }
-    requires grown { IsPlain (with_entry store.now.library (new_entry image.now.name)) }
-    ensures library { IfOk result (λ x. x.0 ≡ with_entry store.now.library (new_entry image.now.name)) }
-    ensures plan { IfOk result (λ x. x.1.changes ≡ library_changes (with_entry store.now.library (new_entry image.now.name))) }
+    requires grown { IsWritable (with_medium_entry store.now.library (new_entry image.now.name)) }
+    ensures library { IfOk result (λ x. x.0 ≡ with_medium_entry store.now.library (new_entry image.now.name)) }
+    ensures plan { IfOk result (λ x. x.1.changes ≡ library_changes (with_medium_entry store.now.library (new_entry image.now.name))) }
 {
     let library = library_with(alloc, &store.library, image.name.bytes())?;
     let plan = library_plan(alloc, &library)?;

@@ -1,5 +1,5 @@
 -- What the commands have in common.
-use Rattle.std.proofs.Common.{◌≡◌, ℕ, Bool, true, false, List, Option, Some, None, refl, sym, ap, ◌∙◌, cond, IsTrue}
+use Rattle.std.proofs.Common.{◌≡◌, ℕ, Bool, true, false, List, Option, Some, None, refl, sym, ap, ◌∙◌, ⊎_elim, cond, IsTrue}
 use Rattle.std.specs.Str.{bytes_eq}
 use Rattle.std.proofs.lemmas.Bool.{false_from_ne_true}
 use Rattle.std.proofs.lemmas.Slice.Eq.{bytes_eq-Decides}
@@ -7,6 +7,7 @@ use Rattle.vbm_ports.specs.Names.{is_medium_name, is_inner_name}
 use Rattle.vbm_registry.specs.Library.{library_name}
 use Rattle.vbm_named.specs.Names.{Name}
 use Rattle.vbm_store.specs.Kept.{KeepsBytes}
+use Rattle.vbm_store.proofs.Readiness.{is_image_name, either}
 
 -- ---- names
 
@@ -21,6 +22,9 @@ medium_not_library name named = other_name is_medium_name library_name name refl
 pub inner_not_library : (name : Name) → IsTrue (is_inner_name name) → bytes_eq library_name name ≡ false
 unfolding is_inner_name
 inner_not_library name inner = other_name is_inner_name library_name name refl inner
+
+pub image_not_library : (name : Name) → IsTrue (is_image_name name) → bytes_eq library_name name ≡ false
+image_not_library name is = ⊎_elim (medium_not_library name) (inner_not_library name) (either (is_medium_name name) (is_inner_name name) is)
 
 -- ---- files
 

@@ -4,4 +4,9 @@ pub mod Pushing
 pub mod Readiness
 pub mod Keeping
 pub mod Turning
+mod PlacesUsed
+pub mod Listing
+pub mod Marks
+pub mod PutMedia
+pub mod GoneMedia
 mod Edits

@@ -1,5 +1,5 @@
 -- What the changes of commands make of files.
-use Rattle.std.proofs.Common.{◌≡◌, ℕ, ◌+◌, ◌-◌, ◌*◌, ◌^◌, true, false, List, [], ◌∷◌, ◌++◌, length, take, drop, replicate, length-append, Option, Some, None, bytes_eq, refl, sym, ap, subst, ◌∙◌, arith, inl, inr}
+use Rattle.std.proofs.Common.{◌≡◌, ℕ, ◌+◌, ◌-◌, ◌*◌, ◌^◌, ◌≤◌, true, false, Ok, List, [], ◌∷◌, ◌++◌, length, take, drop, replicate, length-append, Option, Some, None, bytes_eq, refl, sym, ap, subst, ◌∙◌, arith, inl, inr}
 use Rattle.std.specs.Prelude.{nat_lt}
 use Rattle.std.proofs.lemmas.Bool.{cases_Bool, ltb-false}
 use Rattle.std.proofs.lemmas.List.{length-replicate, append_assoc, append-nil, take_all, take_at, drop_all}
@@ -19,6 +19,13 @@ use Rattle.vbm_named.proofs.Lists.{name_refl}
 use Rattle.vbm_registry.specs.declared.library.Library.{Library}
 use Rattle.vbm_registry.specs.Library.{library_name}
 use Rattle.vbm_registry.specs.Spelling.{spelling}
+use Rattle.vbm_registry.specs.Grammar.{library_in, library_off}
+use Rattle.vbm_registry.specs.PlaceRules.{keeps_places}
+use Rattle.vbm_registry.specs.declared.features.TheConstants.{BUILT}
+use Rattle.vbm_registry.specs.declared.library.TheConstants.{LONGEST_LIBRARY}
+use Rattle.vbm_registry.proofs.FileAgain.{spelled_off, off_again}
+use Rattle.vbm_registry.proofs.DecodedRules.{off_decoded}
+use Rattle.vbm_store.specs.Serves.{IsWritable}
 use Rattle.vbm_store.specs.Plans.{library_changes, gap_changes, front_changes, image_changes}
 use Rattle.vbm_store.proofs.Pushing.{Parts, parts, length-header_bytes}
 
@@ -41,6 +48,13 @@ library_after : (l : Library) (file : Option (List ℕ)) → file_after (library
 library_after l file =
     ap (λ b. Some (take (length (spelling l)) b)) (put_start (spelling l) (bytes_of file))
     ∙ ap Some (take_at (spelling l) (drop (length (spelling l)) (bytes_of file)) (length (spelling l)) refl)
+
+-- what is written of a library is read as the library with every machine off
+pub written_again : (l : Library) → IsWritable l → library_in BUILT keeps_places (spelling l) ≡ Ok (library_off l)
+written_again l is = off_again BUILT keeps_places l (off_decoded BUILT l is.rules is.built)
+
+pub written_short : (l : Library) → IsWritable l → length (spelling l) ≤ LONGEST_LIBRARY
+written_short l is = subst (λ (b : List ℕ). length b ≤ LONGEST_LIBRARY) (spelled_off BUILT keeps_places l) (off_decoded BUILT l is.rules is.built).short
 
 -- the library's file is its spelling, after changes of other files
 pub library_made : (cs : List Change) (l : Library) (files : Files) → of_file library_name cs ≡ []

@@ -1,12 +1,11 @@
 -- Steps of a store that read, and then commit a plan.
-use Rattle.std.proofs.Common.{◌≡◌, ◌≢◌, ℕ, Bool, true, false, List, refl, sym, ap, subst, ◌∙◌, inl, inr, IsTrue}
+use Rattle.std.proofs.Common.{◌≡◌, ℕ, Bool, true, List, refl, sym, ap, subst, ◌∙◌, inl, inr}
 use Rattle.vbm_ports.specs.Files.{Files}
 use Rattle.vbm_ports.specs.Disk.{DiskState, Passes, OnlyReads}
 use Rattle.vbm_ports.specs.Crash.{Only}
-use Rattle.vbm_ports.specs.Names.{is_inner_name}
 use Rattle.vbm_ports.proofs.States.{Passes-trans, Passes-weaker}
 use Rattle.vbm_intent.specs.declared.change.Change.{Change}
-use Rattle.vbm_intent.specs.Changes.{log_name, changed, Fits}
+use Rattle.vbm_intent.specs.Changes.{changed, Fits}
 use Rattle.vbm_intent.specs.Log.{IsShutInAll, SameBesidesLog, RedoesTo, IsBeforeOrAfter, before, done}
 use Rattle.vbm_world.specs.declared.command.Command.{Command}
 use Rattle.vbm_world.specs.declared.command.Answer.{Answer}
@@ -15,22 +14,23 @@ use Rattle.vbm_world.specs.World.{World, off}
 use Rattle.vbm_world.specs.Step.{step_of}
 use Rattle.vbm_world.specs.Loose.{Unsettled, all_settled, unsettled_after, IsLoosely}
 use Rattle.vbm_world.proofs.Worlds.{loosely_weaker}
-use Rattle.vbm_standing.specs.Meaning.{none_changed}
-use Rattle.vbm_standing.proofs.Stores.{world_frame}
+use Rattle.vbm_standing.specs.Meaning.{none_changed, none_runs}
+use Rattle.vbm_standing.proofs.MachineWorlds.{world-frame}
 use Rattle.vbm_store.specs.declared.store.Store.{Store}
 use Rattle.vbm_intent.specs.declared.log.Log.{Log}
 use Rattle.vbm_registry.specs.declared.library.Library.{Library}
+use Rattle.vbm_registry.specs.Named.{named}
 use Rattle.vbm_store.specs.declared.images.Edit.{Edit}
 use Rattle.vbm_store.specs.declared.store.Committed.TheVariants.{Done}
-use Rattle.vbm_store.specs.Edits.{edited}
+use Rattle.vbm_store.specs.Edits.{store_after}
 use Rattle.vbm_store.specs.Commits.{HandsBack}
 use Rattle.vbm_store.specs.Keeps.{Keeps, AllKeep, kind_of}
 use Rattle.vbm_store.specs.Kept.{AreKept}
-use Rattle.vbm_store.specs.Serves.{rests, serves, IsSoundStore, Holds, FitsDisk, touched, IsReady, StandsLoosely, both}
+use Rattle.vbm_store.specs.Serves.{rests, serves, changed_of, running_of, IsWritable, IsQuiet, IsSoundStore, Holds, FitsDisk, touched, IsReady, StandsLoosely, both}
 use Rattle.vbm_store.specs.Turns.{Turns, IsInStep, Turned}
 use Rattle.vbm_store.specs.Steps.{HasNoStrays, Advances, Stays, Manages, Answers}
 use Rattle.vbm_store.proofs.Keeping.{kept_itself, kept_besides}
-use Rattle.vbm_store.proofs.Readiness.{same_media, holds_besides, unstaged_here, keeps_self, settled_ready, kept_redone, ready_stands, ready_redone}
+use Rattle.vbm_store.proofs.Readiness.{inner_not_log, same_images, holds_besides, unstaged_here, keeps_self, settled_ready, kept_redone, ready_stands, ready_redone}
 
 -- more sectors may be loose
 pub stands_more : (w : World) (u v : Unsettled) (image : Files) → StandsLoosely w u image → StandsLoosely w (both u v) image
@@ -39,6 +39,10 @@ stands_more w u v image stands = record {
   stands = stands.stands;
   loosely = loosely_weaker u (both u v) (λ vm port sector t. rw t refl) w stands.world stands.loosely;
 }
+
+-- no merging and no making is in use
+pub quiet_if_written : (l : Library) → IsWritable l → IsQuiet l
+quiet_if_written l is = record { merging = is.built.merging refl; making = is.built.making refl }
 
 -- what only reads leaves no other
 pub read_passes : {tells : Type 0} {e : Store} {old new : DiskState} → OnlyReads tells old new → IsSoundStore e
@@ -61,14 +65,13 @@ module _ {tells : Type 0} (told : tells) (e : Store) {old new : DiskState} (read
   pub ready_read : (u : Unsettled) → IsReady e old u → IsReady e new u
   ready_read u ready = record {
     fits = fits_read ready.fits;
-    plain = ready.plain;
     keeps = keeps_read (touched e.library u) ready.keeps;
     here = subst (λ f. IsLoosely u (off (serves e f)) (rests e.library f)) (sym (reads.files told)) ready.here;
   }
 
   module _ (sound : IsSoundStore e) where
     pub kept_read : AreKept e.library old.files e.library new.files
-    kept_read = subst (AreKept e.library old.files e.library) (sym (reads.files told)) (kept_itself e.library old.files sound.library)
+    kept_read = subst (AreKept e.library old.files e.library) (sym (reads.files told)) (kept_itself e.library old.files sound.library.rules)
 
     pub read_stays : FitsDisk e old → Stays old new e e
     read_stays fits = record { same = ap (serves e) (reads.files told); fits = fits_read fits; ready = ready_read; kept = kept_read }
@@ -81,14 +84,10 @@ module _ {tells : Type 0} (told : tells) (e : Store) {old new : DiskState} (read
       ready = λ u was. subst (IsReady e new) (sym (answers.1 u)) (ready_read u was);
       kept = kept_read;
       tidy = record {
-        plain = sound.library;
+        quiet = quiet_if_written e.library sound.library;
         strays = λ name inner unlisted none. ap (λ (f : Files). f name) (reads.files told) ∙ none;
       };
     }
-
-inner_not_log : (name : Name) → IsTrue (is_inner_name name) → name ≢ log_name
-unfolding is_inner_name
-inner_not_log name inner e = let t : false ≡ true = ap is_inner_name (sym e) ∙ inner in absurd cc
 
 -- ---- a commit
 
@@ -99,23 +98,24 @@ module _ {u : Unsettled} {files : Files} {plan : List Change} {next : Store} {w 
 
   -- what is redone to them stands for the world after the plan
   after_stands : (image : Files) → RedoesTo to image → StandsLoosely (off w) u image
-  after_stands = kept_redone u next.library next.images to turns.sound.library turns.holds (off w) turns.here to
-      (keeps_self next.library to (touched next.library u) turns.sound.library turns.holds.store)
+  after_stands = kept_redone u next.library next.images to turns.sound.library.rules turns.holds (off w) turns.here to
+      (keeps_self next.library to (touched next.library u) turns.holds.store)
 
   pub commit_turned : (new : DiskState) → SameBesidesLog new.files to → Only new.files new.may_leave → IsShutInAll new.may_leave
       → new.may_leave new.files → Turned u next w new
   commit_turned new same only shut now =
-      let lib = turns.sound.library in
-      let back : SameBesidesLog to new.files = λ name other. sym (same name other) in
+      let rules = turns.sound.library.rules in
+      let images = same_images (named next.library) to new.files same in
       let world : rests next.library new.files ≡ rests next.library to =
-      world_frame to new.files (same_media to new.files back) none_changed next.library lib in
-      let serves_it : serves next new.files ≡ w = world ∙ turns.by in
+      world-frame none_changed none_runs (named next.library) to new.files rules images in
+      let serves_it : serves next new.files ≡ w =
+      world-frame (changed_of next) (running_of next) (named next.library) to new.files rules images ∙ turns.by in
       let here : IsLoosely u (off (serves next new.files)) (rests next.library new.files) =
       subst (λ v. IsLoosely u (off v) (rests next.library new.files)) (sym serves_it) (subst (IsLoosely u (off w)) (sym world) turns.here) in
       record {
         serves_it = serves_it;
         sound = turns.sound;
-        ready = settled_ready next new u turns.sound (holds_besides next.library next.images to new.files lib back turns.holds)
+        ready = settled_ready next new u (holds_besides next.library next.images to new.files rules same turns.holds)
             here only shut now;
       }
 
@@ -172,9 +172,9 @@ module _ {tells : Type 0} {e : Store} {c : Command} {plan : List Change} {next :
         by = ap (λ (w : World). (a, w)) settled.serves_it ∙ owes.by;
         fits = settled.ready.fits;
         ready = λ u was. (turned (unsettled_after u (serves e old.files) c)).ready;
-        kept = kept_besides e.library next.library old.files (changed plan old.files) new.files sound.library same owes.kept;
+        kept = kept_besides e.library next.library old.files (changed plan old.files) new.files sound.library.rules same owes.kept;
         tidy = record {
-          plain = settled.sound.library;
+          quiet = quiet_if_written next.library settled.sound.library;
           strays = λ name inner unlisted none. same name (inner_not_log name inner) ∙ owes.strays name inner unlisted none;
         };
       }
@@ -182,7 +182,7 @@ module _ {tells : Type 0} {e : Store} {c : Command} {plan : List Change} {next :
 -- the store that a commit gives back is the next one of the command
 pub turned_by : {files : Files} {e : Store} {c : Command} {plan : List Change} {a : Answer} (library : Library) (edit : Edit) (next : Store)
     → HandsBack e library edit (Done next)
-    → ((log : Log) → Manages files e c plan (record { library = library; images = edited edit e.images; log = log }) a)
+    → ((log : Log) → Manages files e c plan (store_after e library edit log) a)
     → Manages files e c plan next a
 turned_by {files = files} {e = e} {c = c} {plan = plan} {a = a} library edit next store owes =
-    subst (λ n. Manages files e c plan n a) (λ i. record { library = sym store.0 i; images = sym store.1 i; log = next.log }) (owes next.log)
+    subst (λ n. Manages files e c plan n a) (sym store) (owes next.log)

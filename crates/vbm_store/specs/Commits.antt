@@ -10,11 +10,11 @@ use Rattle.vbm_store.specs.declared.store.Store.{Store}
 use Rattle.vbm_store.specs.declared.images.Edit.{Edit}
 use Rattle.vbm_store.specs.declared.store.Committed.{Committed}
 use Rattle.vbm_store.specs.declared.store.Committed.TheVariants.{Done, NoMemory, Failed}
-use Rattle.vbm_store.specs.Edits.{edited}
+use Rattle.vbm_store.specs.Edits.{store_after}
 
 -- The store behind the commit has the new library and the edited images; without memory it is as it was.
 abbrev pub HandsBack : Store → Library → Edit → Committed → Type 0
-HandsBack e library edit (Done next) = (next.library ≡ library) × (next.images ≡ edited edit e.images)
+HandsBack e library edit (Done next) = next ≡ store_after e library edit next.log
 HandsBack e library edit (NoMemory next) = next ≡ e
 HandsBack e library edit Failed = Unit {0}
 

@@ -9,3 +9,4 @@ pub mod Turns
 pub mod Steps
 pub mod Plans
 pub mod Images
+pub mod Uses

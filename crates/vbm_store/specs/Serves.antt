@@ -1,17 +1,26 @@
 -- What an open store serves: the world of its library over the files, and what a crash leaves of it.
-use Rattle.std.specs.Prelude.{◌≡◌, ℕ, ◌||◌, Bool, true, false, List, map, Ok}
+use Rattle.std.specs.Prelude.{◌≡◌, ℕ, ◌&&◌, ◌||◌, Bool, true, List, [], ◌++◌, map, length, take, None, Ok}
+use Rattle.std.specs.List.{list_any}
+use Rattle.std.specs.Str.{bytes_eq}
 use Rattle.vbm_ports.specs.Files.{Files}
 use Rattle.vbm_ports.specs.Disk.{DiskState}
-use Rattle.vbm_named.specs.Names.{Name}
+use Rattle.vbm_machines.specs.declared.Machine.{Machine}
+use Rattle.vbm_machines.specs.Renumbering.{itself}
+use Rattle.vbm_named.specs.Names.{Name, has_name}
 use Rattle.vbm_world.specs.World.{World, off}
 use Rattle.vbm_world.specs.Loose.{Unsettled, IsLoosely}
-use Rattle.vbm_registry.specs.declared.media.Medium.{Medium}
 use Rattle.vbm_registry.specs.declared.library.Library.{Library}
-use Rattle.vbm_registry.specs.Library.{medium_entry_name, IsPlain}
-use Rattle.vbm_registry.specs.Named.{named}
+use Rattle.vbm_registry.specs.declared.features.TheConstants.{BUILT}
+use Rattle.vbm_registry.specs.Library.{medium_entry_name}
+use Rattle.vbm_registry.specs.Built.{IsBuilt}
+use Rattle.vbm_registry.specs.Grammar.{library_off}
+use Rattle.vbm_registry.specs.Named.{NamedInner, NamedLibrary, named}
+use Rattle.vbm_registry.specs.Rules.{IsLibrary}
+use Rattle.vbm_standing.specs.ChainDisks.{inner_file}
 use Rattle.vbm_standing.specs.Headers.{header_in}
 use Rattle.vbm_standing.specs.Meaning.{world_with, none_runs, none_changed}
 use Rattle.vbm_standing.specs.Faults.{IsStore}
+use Rattle.vbm_standing.specs.SlotSectors.{unsettled_in}
 use Rattle.vbm_standing.specs.Stands.{Stands, library_of}
 use Rattle.vbm_store.specs.declared.store.Store.{Store}
 use Rattle.vbm_store.specs.declared.store.Image.{Image}
@@ -25,9 +34,20 @@ rests l files = world_with none_changed none_runs l files
 abbrev pub view : List Image → Files → Files
 view images files = files
 
--- the world that a store serves; no machine runs yet, so that no medium has changed since a start
+-- the machines that run, by the marks of the library
+abbrev pub running_in : List Machine → Name → Bool
+running_in machines name = list_any (λ (m : Machine). m.running && bytes_eq m.name name) machines
+
+abbrev pub running_of : Store → Name → Bool
+running_of e name = running_in e.library.machines name
+
+-- the media that have changed since a start
+abbrev pub changed_of : Store → Name → Bool
+changed_of e name = has_name itself name e.changed
+
+-- the world that a store serves
 abbrev pub serves : Store → Files → World
-serves e files = world_with none_changed none_runs e.library (view e.images files)
+serves e files = world_with (changed_of e) (running_of e) e.library (view e.images files)
 
 abbrev pub image_id : Image → List ℕ
 image_id image = image.header.id
@@ -35,34 +55,51 @@ image_id image = image.header.id
 abbrev pub image_name : Image → Name
 image_name image = image.name
 
--- the image of an entry
-abbrev pub image_in : Files → Medium → Image
-image_in files m = record { name = m.name; header = header_in files m.name }
+-- the image of a file
+abbrev pub image_in : Files → Name → Image
+image_in files name = record { name = name; header = header_in files name }
 
--- What holds of a store by itself: a library of normal media alone, and an image for each medium.
+-- the files of a library's images: those of its media, then the inner ones
+abbrev pub image_files : NamedLibrary → List Name
+image_files l = map medium_entry_name l.media ++ map (λ (x : NamedInner). inner_file l.seed x.number) l.inners
+
+-- the images of the media
+abbrev pub media_images : Store → List Image
+media_images e = take (length e.library.media) e.images
+
+-- a library that its file may hold, with every machine off
+pub record IsWritable (l : Library) : Type 0 where
+  pub rules : IsLibrary (named l)
+  pub built : IsBuilt BUILT l
+
+-- nothing is being merged, and nothing made
+pub record IsQuiet (l : Library) : Type 0 where
+  pub merging : l.merging ≡ []
+  pub making : l.making ≡ None
+
+-- What holds of a store by itself: a library that may be written, and an image for each of its files.
 pub record IsSoundStore (e : Store) : Type 0 where
-  pub library : IsPlain e.library
-  pub images : map image_name e.images ≡ map medium_entry_name e.library.media
+  pub library : IsWritable e.library
+  pub images : map image_name e.images ≡ image_files (named e.library)
 
--- the store's library and images are those of the files
+-- the store's library, with every machine off, and its images are those of the files
 pub record Holds (library : Library) (images : List Image) (files : Files) : Type 0 where
-  pub read : library_of files ≡ Ok library
+  pub read : library_of files ≡ Ok (library_off library)
   pub store : IsStore (named library) files
-  pub headers : images ≡ map (image_in files) library.media
+  pub headers : images ≡ map (image_in files) (image_files (named library))
 
 -- and a crash leaves the log shut and every file but for sectors that are not settled
 pub record FitsDisk (e : Store) (s : DiskState) : Type 0 where
   pub holds : Holds e.library e.images s.files
   pub frame : AllKeep (kind_of e.library s.files) (λ name i. true) s.files s
 
--- which sectors of a listed image's file are unsettled: those of no machine yet
+-- which sectors of an image's file are unsettled: those of the slots that use it
 abbrev pub touched : Library → Unsettled → Name → ℕ → Bool
-touched l u name i = false
+touched l u name i = unsettled_in (named l) u name i
 
 -- The disk is ready with these sectors unsettled: a crash leaves all but them.
 pub record IsReady (e : Store) (s : DiskState) (u : Unsettled) : Type 0 where
   pub fits : FitsDisk e s
-  pub plain : IsPlain e.library
   pub keeps : AllKeep (kind_of e.library s.files) (touched e.library u) s.files s
   pub here : IsLoosely u (off (serves e s.files)) (rests e.library s.files)
 

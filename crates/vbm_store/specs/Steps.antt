@@ -15,7 +15,7 @@ use Rattle.vbm_world.specs.World.{World}
 use Rattle.vbm_world.specs.Step.{step_of}
 use Rattle.vbm_world.specs.Loose.{Unsettled, unsettled_after}
 use Rattle.vbm_registry.specs.declared.library.Library.{Library}
-use Rattle.vbm_registry.specs.Library.{medium_entry_name, IsPlain}
+use Rattle.vbm_registry.specs.Named.{named}
 use Rattle.vbm_store.specs.declared.store.Store.{Store}
 use Rattle.vbm_store.specs.declared.decision.Turn.{Turn}
 use Rattle.vbm_store.specs.declared.decision.Decision.{Decision}
@@ -24,17 +24,17 @@ use Rattle.vbm_store.specs.declared.undone.Undone.{Undone}
 use Rattle.vbm_store.specs.declared.undone.Undone.TheVariants as undone
 use Rattle.vbm_store.specs.Listed.{is_inner_of}
 use Rattle.vbm_store.specs.Kept.{AreKept}
-use Rattle.vbm_store.specs.Serves.{serves, image_name, FitsDisk, IsReady}
-use Rattle.vbm_store.specs.Edits.{edited}
+use Rattle.vbm_store.specs.Serves.{serves, image_name, image_files, IsWritable, IsQuiet, FitsDisk, IsReady}
+use Rattle.vbm_store.specs.Edits.{edited, store_after}
 use Rattle.vbm_store.specs.Turns.{Turns}
 
 -- no file with an inner image's name came that the library does not list
 abbrev pub HasNoStrays : Library → Files → Files → Type 0
 HasNoStrays l files now = (name : Name) → IsTrue (is_inner_name name) → IsFalse (is_inner_of l name) → files name ≡ None → now name ≡ None
 
--- a tidy store: its library has normal media alone, and there are no strays
+-- a tidy store: nothing is being merged or made, and there are no strays
 pub record IsTidy (l : Library) (files now : Files) : Type 0 where
-  pub plain : IsPlain l
+  pub quiet : IsQuiet l
   pub strays : HasNoStrays l files now
 
 -- ---- a step
@@ -78,7 +78,7 @@ Refuses files e c undone.NoMemory = Unit {0}
 -- a turn to the machine's next world
 abbrev pub Plans : Files → Store → Command → Turn → Type 0
 Plans files e c turn =
-    (log : Log) → Manages files e c turn.plan.changes (record { library = turn.library; images = edited turn.edit e.images; log = log }) turn.answer
+    (log : Log) → Manages files e c turn.plan.changes (store_after e turn.library turn.edit log) turn.answer
 
 -- what was decided
 abbrev pub Decides : Files → Store → Command → Result Decision (Undone Refusal) → Type 0
@@ -89,7 +89,7 @@ Decides files e c (Err it) = Refuses files e c it
 -- what holds of a turn over any disk
 abbrev pub IsSoundTurn : Store → Turn → Type 0
 IsSoundTurn e turn =
-    IsPlain turn.library × (map image_name (edited turn.edit e.images) ≡ map medium_entry_name turn.library.media)
+    IsWritable turn.library × (map image_name (edited turn.edit e.images) ≡ image_files (named turn.library))
 
 abbrev pub DecidesSound : Store → Result Decision (Undone Refusal) → Type 0
 DecidesSound e (Ok (decisions.Answer a)) = Unit {0}

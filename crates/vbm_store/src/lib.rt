@@ -1,16 +1,20 @@
 //! The state of an open store: what it serves, what a crash keeps of it, and the pieces of plans.
 #![tactic(auto)]
 
+mod changed;
 mod decision;
 mod image;
 mod images;
 mod plans;
 mod store;
 mod undone;
+mod uses;
 
+pub use changed::Changed;
 pub use decision::{Decision, Turn};
 pub use image::{OpenFault, open_image};
 pub use images::{Edit, Images};
 pub use plans::{plan_image, plan_library};
 pub use store::{Committed, Image, Store};
 pub use undone::Undone;
+pub use uses::{is_frozen, is_in_use};

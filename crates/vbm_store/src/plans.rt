@@ -9,11 +9,12 @@ ghost use Rattle.vbm_intent.specs.Changes.{of_file, IsAllowed};
 ghost use Rattle.vbm_intent.specs.Plan.{body_size};
 ghost use Rattle.vbm_volume.specs.Like.{map_end};
 ghost use Rattle.vbm_volume.specs.Made.{IsNewHeader};
-ghost use Rattle.vbm_registry.specs.Library.{library_name, IsPlain};
+ghost use Rattle.vbm_registry.specs.Library.{library_name};
 ghost use Rattle.vbm_registry.specs.Spelling.{spelling};
 ghost use Rattle.vbm_registry.specs.declared.features.TheConstants.{BUILT as built};
-ghost use Rattle.vbm_registry.specs.Grammar.{library_in};
+ghost use Rattle.vbm_registry.specs.Grammar.{library_in, library_off};
 ghost use Rattle.vbm_registry.specs.PlaceRules.{keeps_places};
+ghost use Rattle.vbm_store.specs.Serves.{IsWritable};
 ghost use Rattle.vbm_store.specs.Plans.{library_changes, gap_changes, front_changes, image_changes, EndsBy};
 ghost use Rattle.vbm_intent.specs.declared.limits.TheConstants.{MOST_CHANGES};
 ghost use Rattle.vbm_registry.specs.declared.library.TheConstants.{LONGEST_LIBRARY};
@@ -80,14 +81,14 @@ fn push_cut(alloc: Global, plan: &mut Plan, name: &[u8], len: u64) -> Result<(),
     plan.push(Change::Cut { name, len })
 }
 
-/// Adds the writing of the library.
+/// Adds the writing of the library, as it is with every machine off.
 pub fn plan_library(alloc: Global, plan: &mut Plan, library: &Library) -> Result<(), NoMemory>
-    requires library { IsPlain library.now }
+    requires library { IsWritable library.now }
     requires apart { of_file library_name plan.old.changes ≡ [] }
     requires small { body_size plan.old.changes ≤ 2 ^ 22 }
     requires few { length plan.old.changes ≤ 2 ^ 15 }
     ensures ok { OnOk result (plan.new.changes ≡ plan.old.changes ++ library_changes library.now) }
-    ensures again { OnOk result (library_in built keeps_places (spelling library.now) ≡ Ok library.now) }
+    ensures again { OnOk result (library_in built keeps_places (spelling library.now) ≡ Ok (library_off library.now)) }
 {
     let bytes = encode(alloc, library)?;
     let len = bytes.len() as u64;

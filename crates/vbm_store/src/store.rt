@@ -7,9 +7,10 @@ ghost use Rattle.vbm_ports.specs.Disk.{Passes, OnlyReads};
 ghost use Rattle.vbm_intent.specs.Changes.{changed, Fits};
 ghost use Rattle.vbm_intent.specs.Log.{IsShutInAll, SameBesidesLog, IsBeforeOrAfter};
 ghost use Rattle.vbm_world.specs.Loose.{Unsettled};
-ghost use Rattle.vbm_store.specs.Serves.{IsReady};
+ghost use Rattle.vbm_store.specs.Serves.{media_images, IsSoundStore, IsReady};
 ghost use Rattle.vbm_store.specs.Commits.{HandsBack, Commits, OnNoMemory, commit_failed};
 
+use crate::changed::Changed;
 use crate::images::{Edit, Images, apply, reserve};
 use vbm_header::Header;
 use vbm_intent::{Log, Plan};
@@ -26,7 +27,10 @@ pub struct Image {
 /// A store that is open.
 #[derive(Drop)]
 pub struct Store {
+    /// The library, with the marks of the machines that run, which its file does not tell.
     pub library: Library,
+    /// The media that have changed since a start.
+    pub changed: Changed,
     pub images: Images,
     pub log: Log,
 }
@@ -43,6 +47,14 @@ pub enum Committed {
 }
 
 impl Store {
+    /// The images of the media, in the order of their names.
+    pub fn media_images(&self) -> &[Image]
+        requires { IsSoundStore self.now }
+        ensures { result.now ≡ media_images self.now }
+    {
+        &self.images.as_slice()[..self.library.media.len()]
+    }
+
     /// Settles what guests wrote and have not flushed. No command of today leaves anything unsettled, so there is nothing to do.
     pub fn settle<D: Disk>(&mut self, _disk: &mut D) -> Result<(), Failed>
         ensures same { self.new ≡ self.old }
@@ -68,6 +80,7 @@ impl Store {
     {
         let Store {
             library: held,
+            mut changed,
             images,
             mut log,
         } = self;
@@ -75,15 +88,18 @@ impl Store {
         if reserve(&mut items, &edit).is_err() {
             return Committed::NoMemory(Store {
                 library: held,
+                changed,
                 images: Images::from_vec(items),
                 log,
             });
         }
         match commit_plan(disk, &mut log, plan) {
             Ok(()) => {
+                changed.apply(&edit);
                 apply(&mut items, edit);
                 Committed::Done(Store {
                     library,
+                    changed,
                     images: Images::from_vec(items),
                     log,
                 })

@@ -1,5 +1,5 @@
 -- A command over an open store, and its close.
-use Rattle.std.proofs.Common.{◌≡◌, ℕ, Ok, refl, sym, ap, subst, ◌∙◌, arith, ◌⊎◌, inl, inr, IsTrue}
+use Rattle.std.proofs.Common.{◌≡◌, Ok, refl, sym, ap, subst, ◌∙◌, arith, ◌⊎◌, inl, inr, IsTrue}
 use Rattle.std.proofs.lemmas.Bool.{cases_Bool}
 use Rattle.vbm_ports.specs.Files.{Files}
 use Rattle.vbm_ports.specs.Disk.{DiskState, Passes, OnlyReads, IsCoherent}
@@ -15,7 +15,7 @@ use Rattle.vbm_world.specs.Texts.{line_of}
 use Rattle.vbm_world.proofs.Numbers.{same_next}
 use Rattle.vbm_served.specs.Served.{is_served, IsServed}
 use Rattle.vbm_registry.specs.Named.{named}
-use Rattle.vbm_standing.specs.Stands.{Stands}
+use Rattle.vbm_standing.specs.Stands.{Stands, redone, bad_log}
 use Rattle.vbm_engine.specs.declared.engine.Engine.{Engine}
 use Rattle.vbm_engine.specs.declared.engine.Opened.TheVariants.{Open, Fault}
 use Rattle.vbm_engine.specs.Serves.{serves, IsSoundEngine, IsReady}
@@ -24,6 +24,7 @@ use Rattle.vbm_engine.specs.Steps.{Advances, Stays, IsInCommand}
 use Rattle.vbm_engine.specs.Opens.{StandsAlike, SyncsFirst}
 use Rattle.vbm_engine.proofs.Openings.{syncs_goes_on, opened_synced}
 use Rattle.vbm_engine.proofs.Serving.{ready_stands, before_step}
+use Rattle.vbm_standing.proofs.Stores.{store_if_held}
 use Rattle.vbm_standing.proofs.Worlds.{off_at_rest}
 use Rattle.vbm_top.specs.declared.status.Status.{Status}
 use Rattle.vbm_top.specs.declared.status.Status.TheVariants.{NoMemory}
@@ -101,6 +102,12 @@ module _ (tells : Type 0) (files : Files) (e next : Engine) (c : Command) (a : A
 
 -- ---- no memory for a step
 
+-- a world that files stand for is off
+off_stands : (files : Files) (w : World) → Stands files (Ok w) → off w ≡ w
+off_stands files w (redone result redo is) =
+    let held = store_if_held result w is in subst (λ v. off v ≡ v) (sym held.is) (off_at_rest (named held.library) result)
+off_stands files w (bad_log bad is) = absurd cc
+
 module _ (tells : Type 0) (files : Files) (e same : Engine) (c : Command) (d1 d2 d3 : DiskState) (stays : tells → Stays d1 d2 e same) where
   pub memory_ends : (sink : Stream) (wanted status : Status) → (tells → Stands files (Ok (serves e d1.files))) → wanted ≡ NoMemory → IsSilent sink
       → Closes tells same d2 d3 wanted status → CommandEnds tells c files d3 sink status
@@ -110,7 +117,7 @@ module _ (tells : Type 0) (files : Files) (e same : Engine) (c : Command) (d1 d2
       is_undone t closed = record {
         world = serves e d1.files;
         stood = stood t;
-        stands = subst (λ w. Stands d3.files (Ok w)) (ap off (stays t).same ∙ off_at_rest (named e.store.library) d1.files) closed.stands;
+        stands = subst (λ w. Stands d3.files (Ok w)) (ap off (stays t).same ∙ off_stands files (serves e d1.files) (stood t)) closed.stands;
         settled = closed.settled;
       }
   memory_ends sink wanted status stood six none (inr fails) = broken none fails.0

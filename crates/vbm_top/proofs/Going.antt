@@ -8,7 +8,6 @@ use Rattle.vbm_ports.specs.Disk.{DiskState, Passes}
 use Rattle.vbm_ports.proofs.States.{Passes-refl, Passes-trans}
 use Rattle.vbm_world.specs.declared.command.Answer.{Answer}
 use Rattle.vbm_world.specs.World.{World, off}
-use Rattle.vbm_world.specs.Outcomes.{Outcome}
 use Rattle.vbm_world.specs.Step.{step_of}
 use Rattle.vbm_world.specs.Texts.{line_of}
 use Rattle.vbm_lines.specs.Lines.{Line, read_lines, lines_done}

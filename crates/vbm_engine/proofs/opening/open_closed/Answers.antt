@@ -15,8 +15,9 @@ returns-in-Ok-clause-any_moment g c = λ told.
 
 pub returns-in-Err-Refused-clause-opens : goal.returns-in-Err-Refused-clause-opens
 returns-in-Err-Refused-clause-opens g c = λ told.
-    closed_refused (g.D.Disk.state c.args.disk.now) (g.D.Disk.state c.load.new.disk) _ (c.requires.closed told) (c.load.ensures.reads.files told)
-    (subst (OnBad (λ bad. held_by (g.D.Disk.state c.args.disk.now).files ≡ Err bad)) c.in-Err-Refused.field-0-is (c.in-Err-Refused.ensures.told told))
+    rw c.in-Err-Refused.field-0-is (closed_refused (g.D.Disk.state c.args.disk.now) (g.D.Disk.state c.load.new.disk) c.in-Err-Refused.bad
+    (c.requires.closed told) (c.load.ensures.reads.files told)
+    (subst (OnBad (λ bad. held_by (g.D.Disk.state c.args.disk.now).files ≡ Err bad)) c.in-Err-Refused.field-0-is (c.in-Err-Refused.ensures.told told)))
 
 pub returns-in-Err-Refused-clause-any_moment : goal.returns-in-Err-Refused-clause-any_moment
 returns-in-Err-Refused-clause-any_moment g c = λ told. read_alike _ _ (c.requires.settled told) c.load.ensures.reads

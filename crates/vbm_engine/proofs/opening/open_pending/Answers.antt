@@ -6,7 +6,7 @@ returns-in-Ok-clause-opens g c = λ told.
     let done = c.in-Ok.ensures.recovers told in
     redone_opens _ told (g.D.Disk.state c.args.disk.now) (g.D.Disk.state c.recover_record.new.disk) (g.D.Disk.state c.open_redone.new.disk)
     (c.requires.open told) done.0 done.1 c.open_redone.ensures.reads
-    ((g.met.D.Disk.coherent c.open_redone.new.disk).read_is_image told) _ (c.open_redone.ensures.opens told)
+    ((g.met.D.Disk.coherent c.open_redone.new.disk).read_is_image told) _ c.open_redone.ensures.sound (c.open_redone.ensures.opens told)
 
 pub returns-in-Ok-clause-any_moment : goal.returns-in-Ok-clause-any_moment
 returns-in-Ok-clause-any_moment g c = λ told.

@@ -17,5 +17,5 @@ returns-in_default-find-clause-refused c files holds =
 pub returns-clause-answer : goal.returns-clause-answer
 returns-clause-answer c files holds =
     let image = ap (find_by image_name c.args.name.now) (sym c.as_slice.ensures) ∙ sym c.find-2.ensures ∙ ap option_copied c.in-Some-find.is in
-    rw c.info.ensures (shows c.args.store.now files c.args.name.now c.in-Some.medium.now c.in-Some-find.image.now holds
+    rw c.info.ensures (shows c.args.store.now files c.args.name.now c.in-Some.medium.now c.in-Some-find.image.now c.requires.sound holds
     (sym c.find.ensures ∙ ap option_copied c.in-Some.is) image)

@@ -12,7 +12,7 @@ use Rattle.vbm_media.proofs.create.create_refusal.Goals as goal
 
 pub returns-clause-answer : goal.returns-clause-answer
 returns-clause-answer g c = λ told.
-    let l = c.args.library.now in
+    let l = c.args.store.now.library in
     let name = c.args.name.now in
     let files = (g.D.Disk.state c.args.disk.now).files in
     let taken = c.is_some.ensures ∙ some_copied c.find.result ∙ ap is_some c.find.ensures ∙ sym (has_found medium_entry_name name l.media) in
@@ -21,11 +21,11 @@ returns-clause-answer g c = λ told.
     let full = ap (nat_le MEDIA_LIMIT) c.len.ensures in
     c.first_that_holds.ensures
     ∙ (λ i. first_check (taken i) (there i) (size i) (full i) (nat_le NUMBER_LIMIT l.next))
-    ∙ refusal_is l files name (capacity_of c.args.size) c.requires.library c.requires.name
+    ∙ refusal_is c.args.store.now files name (capacity_of c.args.size) c.requires.sound c.requires.name
 
 pub returns-clause-can : goal.returns-clause-can
 returns-clause-can g c = λ none.
-    let l = c.args.library.now in
+    let l = c.args.store.now.library in
     let name = c.args.name.now in
     let all = none_holds _ _ _ _ _ (sym c.first_that_holds.ensures ∙ none) in
     let taken = c.is_some.ensures ∙ some_copied c.find.result ∙ ap is_some c.find.ensures ∙ sym (has_found medium_entry_name name l.media) in

@@ -1,7 +1,4 @@
-use Rattle.std.proofs.Common.{sym, subst}
 use Rattle.vbm_media.proofs.Registers.{not_opened}
-use Rattle.vbm_store.specs.Steps.{Refuses}
-use Rattle.vbm_world.specs.declared.command.Command.TheVariants.{OpenMedium}
 use Rattle.vbm_media.proofs.register.check_file.Goals as goal
 
 pub returns-in-Err-clause-refused : goal.returns-in-Err-clause-refused

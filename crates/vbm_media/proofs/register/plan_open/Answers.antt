@@ -1,4 +1,3 @@
-use Rattle.std.proofs.Common.{refl}
 use Rattle.vbm_media.proofs.Registers.{images_more, library_more, registers}
 use Rattle.vbm_media.proofs.register.plan_open.Goals as goal
 
@@ -12,12 +11,12 @@ returns-clause-plans c files holds read =
     let image = c.args.image in
     rw c.id-id.ensures (registers c.args.store.now files image.name holds c.requires.sound c.requires.name
     c.requires.can.free image.header read c.requires.can.allowed
-    c.in_ok-library.library _ c.in_ok-library.plan.changes c.in_ok-library.ensures.library refl c.in_ok-library.ensures.plan)
+    c.in_ok-library.library c.in_ok-library.plan.changes c.in_ok-library.ensures.library c.in_ok-library.ensures.plan)
 
 pub returns-clause-sound : goal.returns-clause-sound
 returns-clause-sound c =
     let image = c.args.image in
     rw c.in_ok-library.ensures.library (
       library_more c.args.store.now image.header image.name c.requires.can.allowed c.requires.sound.library c.requires.name c.requires.can.free,
-      images_more c.args.store.now image c.requires.sound,
+      images_more c.args.store.now image c.requires.sound c.requires.name,
     )
