@@ -9,8 +9,9 @@ use Rattle.vbm_header.specs.declared.Header.{Header}
 use Rattle.vbm_volume.specs.Chain.{Link, sector_down, chain_sector}
 use Rattle.vbm_volume.specs.Wrote.{Loosens, Wrote}
 use Rattle.vbm_volume.proofs.Writings.{Loosens-refl}
+use Rattle.vbm_blockmap.specs.declared.entry.Entry.{Entry}
 use Rattle.vbm_image.specs.declared.image.Image.{Image}
-use Rattle.vbm_image.specs.Image.{file_in, IsInForm, FitsIn, FitsOver}
+use Rattle.vbm_image.specs.Image.{file_in, staged_word, IsInForm, FitsIn, FitsOver}
 use Rattle.vbm_chain.specs.Settled.{settled_links, HoldSectors}
 use Rattle.vbm_chain.proofs.ResolvedSectors.{at_item}
 use Rattle.vbm_guest.specs.Runs.{last_of, EndsOnce, ReplacesRun, KeepsOtherChains}
@@ -35,11 +36,12 @@ reads_then tells name h sectors old mid new told reads wrote =
     }
 
 -- an entry that was looked up, after more was read
-pub found_after : (tells : Type 0) (files now : Files) (image : Image) (b : ℕ) (e : Rattle.vbm_blockmap.specs.declared.entry.Entry.Entry) → (tells → now ≡ files)
+pub found_after : (tells : Type 0) (files now : Files) (image : Image) (b : ℕ) (e : Entry) → (tells → now ≡ files)
     → IsEntryAt tells files image b e → IsEntryAt tells now image b e
 found_after tells files now image b e same found = record {
   is = found.is;
-  word = λ told. found.word told ∙ sym (ap (λ (x : Files). Rattle.vbm_image.specs.Image.staged_word (file_in x image) image.header image.pending.staged b) (same told));
+  word = λ told.
+      found.word told ∙ sym (ap (λ (x : Files). staged_word (file_in x image) image.header image.pending.staged b) (same told));
   staged = found.staged;
 }
 
@@ -63,7 +65,7 @@ module _ (P : Image → Image → Type 0) (at : ℕ) (images others : List Image
     pub edited_fits : All (FitsIn files) images → FitsIn now new → All (FitsIn now) others
     edited_fits fits here = changes_all P at images others changes (FitsIn now)
         (λ k x differ is.
-        subst (λ (f : List ℕ). FitsOver x.header x.pending.staged x.used f) (sym (file_kept k x differ is)) (at_item (FitsIn files) images k x fits is))
+        subst (FitsOver x.header x.pending.staged x.used) (sym (file_kept k x differ is)) (at_item (FitsIn files) images k x fits is))
         (λ x is. subst (FitsIn now) (same_image others at new x is_new is) here)
 
     pub edited_others : KeepsOtherChains at files images now others

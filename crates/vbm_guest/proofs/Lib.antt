@@ -13,3 +13,4 @@ pub mod SettledFlush
 pub mod RoomedImages
 pub mod RoomThenWrite
 pub mod WriteThenSettle
+pub mod WrittenImages

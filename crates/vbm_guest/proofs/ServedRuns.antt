@@ -38,7 +38,8 @@ module _ (h : Header) (staged : Staged) (f : List ℕ) (over : AreOver h staged 
         let lba : ℕ = b * 2048 + first in
         let counted : i < sector_count h = (let to = run.1 in omega arith) in
         let block : i / 2048 ≡ b = (let from = run.0 in let to = run.1 in omega arith) in
-        let word : staged_word written h staged (i / 2048) ≡ p = ap (λ (c : ℕ). staged_word written h staged c) block ∙ in_place_word b inside ∙ here in
+        let word : staged_word written h staged (i / 2048) ≡ p =
+        ap (λ (c : ℕ). staged_word written h staged c) block ∙ in_place_word b inside ∙ here in
         let not_free : is_free p ≡ false = elim (eqb_tells p 4294967295) [
           | inl same ↦ absurd (let e = same.1 in let l = ltb-true _ _ position in omega arith)
           | inr apart ↦ apart.0
@@ -74,7 +75,8 @@ module _ (h : Header) (staged : Staged) (f : List ℕ) (over : AreOver h staged 
   in_place_covers i settled = elim (cases_Bool (sectors_at f h p first n i)) [
     | inr none ↦ none
     | inl is ↦
-        let first_three = and_parts (nat_lt (i / 2048) h.blocks && eqb (word_of f h (i / 2048)) p && nat_le first (i % 2048)) (nat_lt (i % 2048) (first + n)) is in
+        let first_three = and_parts (nat_lt (i / 2048) h.blocks && eqb (word_of f h (i / 2048)) p && nat_le first (i % 2048))
+        (nat_lt (i % 2048) (first + n)) is in
         let first_two = and_parts (nat_lt (i / 2048) h.blocks && eqb (word_of f h (i / 2048)) p) (nat_le first (i % 2048)) first_three.0 in
         let two = and_parts (nat_lt (i / 2048) h.blocks) (eqb (word_of f h (i / 2048)) p) first_two.0 in
         let block : i / 2048 ≡ b = same_block (i / 2048) (ltb-true _ _ two.0) (eqb-true _ _ two.1) in
@@ -152,7 +154,8 @@ module _ (h : Header) (staged : Staged) (f : List ℕ) (over : AreOver h staged 
           let q_block = block_within h i over.sound inside_i in
           let q_reach = word_reach h staged f over (i / 2048) q_block is in
           piece-put_other (data_at h p) buf f (sector_at h q (i % 2048)) 512 (omega (arith, q_reach))
-          (at_bytes q (i % 2048) (sectors_apart h p q (i % 2048) 0 2048 (omega arith) (omega arith) (λ same. absurd (differs (i / 2048) q_block (sym same))))))
+          (at_bytes q (i % 2048)
+          (sectors_apart h p q (i % 2048) 0 2048 (omega arith) (omega arith) (λ same. absurd (differs (i / 2048) q_block (sym same))))))
           ∙ sym (run_out (b * 2048 + first) n bytes (served h staged f below) i (out_of i differ first n fits))
     ]
   ]

@@ -95,7 +95,8 @@ module _ (h : Header) (staged : Staged) (f : List ℕ) (over : AreOver h staged 
 pub served_same : (h : Header) (staged more : Staged) (f g : List ℕ) → AreOver h staged f → AreOver h more g → (below : List Link) (i : ℕ)
     → (i < sector_count h → staged_word g h more (i / 2048) ≡ staged_word f h staged (i / 2048))
     → (i < sector_count h → is_position (staged_word f h staged (i / 2048)) ≡ true
-    → piece g (sector_at h (staged_word f h staged (i / 2048)) (i % 2048)) 512 ≡ piece f (sector_at h (staged_word f h staged (i / 2048)) (i % 2048)) 512)
+    → piece g (sector_at h (staged_word f h staged (i / 2048)) (i % 2048)) 512
+    ≡ piece f (sector_at h (staged_word f h staged (i / 2048)) (i % 2048)) 512)
     → served h more g below i ≡ served h staged f below i
 served_same h staged more f g over now below i words pieces = elim (cases_lt i (sector_count h)) [
   | inr past ↦ served_past h more g now below i past ∙ sym (served_past h staged f over below i past)

@@ -151,8 +151,10 @@ module _ (files : Files) (images : List Image) (names : AreNamedApart images) (f
         let form_here = at_item IsInForm images k old form was.1 in
         subst (FitsOver new.header new.pending.staged new.used) (sym file)
         (subst (λ (h : Header). FitsOver h new.pending.staged new.used (settled old.header old.pending.staged f)) (sym was.2.header)
-        (subst (λ (s : Staged). FitsOver (settled_header old.header old.pending.staged) s new.used (settled old.header old.pending.staged f)) (sym was.2.staged)
-        (subst (λ (u : Option (List ℕ)). FitsOver (settled_header old.header old.pending.staged) [] u (settled old.header old.pending.staged f)) (sym was.2.used)
+        (subst (λ (s : Staged). FitsOver (settled_header old.header old.pending.staged) s new.used (settled old.header old.pending.staged f))
+        (sym was.2.staged)
+        (subst (λ (u : Option (List ℕ)). FitsOver (settled_header old.header old.pending.staged) [] u (settled old.header old.pending.staged f))
+        (sym was.2.used)
         (fits_settled old.header old.pending.staged old.used f form_here.header form_here.staged (at_item (FitsIn files) images k old fits was.1))))))
 
     pub flush_serves : (others : List Image) → AreTakenAsSettled images others → ServesSame files images now others

@@ -12,7 +12,8 @@ same_counts [] (y ∷ ys) each = let e = each 0 in absurd cc
 same_counts (x ∷ xs) [] each = let e = each 0 in absurd cc
 same_counts (x ∷ xs) (y ∷ ys) each =
     let first : Some y ≡ Some x = each 0 in
-    let here : length y.pending.staged ≡ length x.pending.staged = (let same : y ≡ x = cc first in ap (λ (z : Image). length z.pending.staged) same) in
+    let same : y ≡ x = cc first in
+    let here : length y.pending.staged ≡ length x.pending.staged = ap (λ (z : Image). length z.pending.staged) same in
     omega (arith, here, same_counts xs ys (λ k. each (suc k)))
 
 -- one image differs
@@ -29,8 +30,11 @@ staged_but_one (x ∷ xs) (y ∷ ys) zero old new rest is_old is_new =
     omega (arith, old_count, new_count, same_counts xs ys (λ k. rest (suc k) (λ e. absurd (let bad : suc k ≡ 0 = e in omega arith))))
 staged_but_one (x ∷ xs) (y ∷ ys) (suc at) old new rest is_old is_new =
     let first : Some y ≡ Some x = rest 0 (λ e. absurd (let bad : 0 ≡ suc at = e in omega arith)) in
-    let here : length y.pending.staged ≡ length x.pending.staged = (let same : y ≡ x = cc first in ap (λ (z : Image). length z.pending.staged) same) in
-    omega (arith, here, staged_but_one xs ys at old new (λ k differ. rest (suc k) (λ e. differ (let same : k ≡ at = (let e2 : suc k ≡ suc at = e in omega arith) in same))) is_old is_new)
+    let same : y ≡ x = cc first in
+    let here : length y.pending.staged ≡ length x.pending.staged = ap (λ (z : Image). length z.pending.staged) same in
+    let later : (k : ℕ) → k ≢ at → slice_get ys k ≡ slice_get xs k =
+    (λ k differ. rest (suc k) (λ e. differ (let one : suc k ≡ suc at = e in let two : k ≡ at = omega arith in two))) in
+    omega (arith, here, staged_but_one xs ys at old new later is_old is_new)
 
 -- of the edited image at most n blocks were staged
 pub staged_more : (n at : ℕ) (images others : List Image) (old : Image) → slice_get images at ≡ Some old

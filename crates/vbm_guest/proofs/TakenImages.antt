@@ -54,7 +54,8 @@ taken_all n images others past to k = elim (cases_lt k n) [
 pub form_set : (images : List Image) (i : ℕ) (new : Image) → All IsInForm images → i < length images → IsInForm new → All IsInForm (set images i new)
 form_set images i new form inside here = all_from IsInForm (set images i new) (λ k x is. elim (eqb_tells k i) [
   | inl same ↦
-      subst IsInForm (same_image (set images i new) i new x (get-set_same images i new inside) (ap (slice_get (set images i new)) (sym same.1) ∙ is)) here
+      subst IsInForm
+      (same_image (set images i new) i new x (get-set_same images i new inside) (ap (slice_get (set images i new)) (sym same.1) ∙ is)) here
   | inr apart ↦ at_item IsInForm images k x form (sym (get-set_other images i k new apart.1) ∙ is)
 ])
 

@@ -39,9 +39,11 @@ module _ (chain : List ℕ) (images : List Image) (lba n : ℕ) (form : All IsIn
   abbrev last : (image : Image) × (slice_get images (last_of chain) ≡ Some image)
   last = image_at images (last_of chain) inside
 
-  loosens_of : (files a b : Files) → Loosens last.0.name last.0.header (file_in files last.0) (in_run lba n) a b → LoosensRun chain images lba n files a b
+  loosens_of : (files a b : Files) → Loosens last.0.name last.0.header (file_in files last.0) (in_run lba n) a b
+      → LoosensRun chain images lba n files a b
   loosens_of files a b loosens image is =
-      subst (λ (x : Image). Loosens x.name x.header (file_in files x) (in_run lba n) a b) (same_image images (last_of chain) last.0 image last.1 is) loosens
+      subst (λ (x : Image). Loosens x.name x.header (file_in files x) (in_run lba n) a b)
+      (same_image images (last_of chain) last.0 image last.1 is) loosens
 
   module _ (old mid : DiskState) (wrote : WroteRun chain images lba n old mid) where
     wrote_last : Wrote last.0.name last.0.header (file_in old.files last.0) (in_run lba n) old mid
@@ -106,7 +108,8 @@ module _ (chain : List ℕ) (images : List Image) (lba n : ℕ) (form : All IsIn
           (subst (λ (xs : List Image). RunWritten chain images old.files lba n bytes xs mid.files) (sym same) run_written))
           (λ image is.
           let accepted = (at_item (FitsIn old.files) images (last_of chain) image fits_old is).accepted in
-          Wrote-goes_on image.name image.header (in_run lba n) (in_run lba n) (in_run lba n) old mid new accepted (λ i loose. loose) (λ i loose. loose)
+          Wrote-goes_on image.name image.header (in_run lba n) (in_run lba n) (in_run lba n) old mid new accepted
+          (λ i loose. loose) (λ i loose. loose)
           (wrote image is) (Wrote-reads (Unit {0}) image.name image.header (bytes_of (mid.files image.name)) (in_run lba n) mid new tt reads))
 
 -- want of memory leaves what is staged

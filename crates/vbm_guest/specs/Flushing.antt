@@ -1,5 +1,5 @@
 -- The settling of all staged entries.
-use Rattle.std.specs.Prelude.{◌≡◌, ℕ, ◌+◌, List, [], ◌∷◌, ◌++◌, length, Option, Some, None, slice_get}
+use Rattle.std.specs.Prelude.{◌≡◌, ◌⊎◌, ℕ, ◌+◌, List, [], ◌∷◌, ◌++◌, length, Option, Some, None, slice_get}
 use Rattle.vbm_ports.specs.Files.{Files}
 use Rattle.vbm_ports.specs.Crash.{Only}
 use Rattle.vbm_ports.specs.Disk.{DiskState, OnlyReads}
@@ -30,6 +30,10 @@ IsTakenAsSettled (Some old) (Some new) = TakesAsSettled old new
 -- the same images, whose staged entries are taken as settled
 abbrev pub AreTakenAsSettled : List Image → List Image → Type 0
 AreTakenAsSettled images others = (k : ℕ) → IsTakenAsSettled (slice_get images k) (slice_get others k)
+
+-- the images are as they were, or the staged entries of all are taken as settled
+abbrev pub MayBeTaken : List Image → List Image → Type 0
+MayBeTaken images others = (others ≡ images) ⊎ AreTakenAsSettled images others
 
 -- Every chain has the sectors that it had.
 abbrev pub ServesSame : Files → List Image → Files → List Image → Type 0

@@ -16,6 +16,7 @@ pub record HasRoomForTwo (images : List Image) (chain : List ℕ) (plan : PlanSt
   pub buffer : size ≡ 2 ^ 20
 
 -- The entries are those of the run, and there is room unless it is written in place.
-pub record IsPreparedFor (tells : Type 0) (files : Files) (images : List Image) (chain : List ℕ) (lba n : ℕ) (plan : PlanState) (p : Prepared) : Type 0 where
+pub record IsPreparedFor (tells : Type 0) (files : Files) (images : List Image) (chain : List ℕ) (lba n : ℕ) (plan : PlanState)
+    (p : Prepared) : Type 0 where
   pub entries : OnLast images chain (λ image. AreEntriesOf tells files image lba n p.entries)
   pub room : are_placed p.entries ≡ false → HasRoomForTwo images chain plan (vec_len p.buf)

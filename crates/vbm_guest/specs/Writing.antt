@@ -10,7 +10,13 @@ use Rattle.vbm_image.specs.declared.image.Image.{Image}
 use Rattle.vbm_image.specs.Image.{file_in, FitsIn}
 use Rattle.vbm_guest.specs.Runs.{in_run, last_of, OnLast, ReplacesRun}
 use Rattle.vbm_guest.specs.Edited.{ChangesAt, StagesAtMost}
-use Rattle.vbm_guest.specs.Flushing.{settling_all, Settled}
+use Rattle.vbm_guest.specs.Flushing.{settling_all, MayBeTaken, Settled}
+
+-- Of the images the one with this number may have two staged blocks more; then the staged entries of all may be taken as settled.
+pub record AreWritten (at : ℕ) (images others : List Image) : Type 0 where
+  pub between : List Image
+  pub edited : ChangesAt (StagesAtMost 2) at images between
+  pub taken : MayBeTaken between others
 
 -- Of all files that of the chain's last image alone changed, and it is still that image but for the run's sectors.
 abbrev pub LoosensRun : List ℕ → List Image → (lba n : ℕ) → Files → Files → Files → Type 0
@@ -23,7 +29,8 @@ WroteRun chain images lba n old new =
     OnLast images chain (λ image. Wrote image.name image.header (file_in old.files image) (in_run lba n) old new)
 
 -- The images and the files when the run is written and nothing is settled yet.
-pub record RunWritten (chain : List ℕ) (images : List Image) (files : Files) (lba n : ℕ) (bytes : List ℕ) (between : List Image) (mid : Files) : Type 0 where
+pub record RunWritten (chain : List ℕ) (images : List Image) (files : Files) (lba n : ℕ) (bytes : List ℕ)
+    (between : List Image) (mid : Files) : Type 0 where
   pub edited : ChangesAt (StagesAtMost 2) (last_of chain) images between
   pub replaces : ReplacesRun chain files images mid between lba n bytes
   pub loosens : LoosensRun chain images lba n files files mid

@@ -9,7 +9,7 @@ ghost use Rattle.vbm_intent.specs.Log.{IsShutInAll, SameBesidesLog, IsBeforeOrAf
 ghost use Rattle.vbm_image.specs.Image.{IsInForm, FitsIn};
 ghost use Rattle.vbm_guest.specs.declared.flushing.TheConstants.{MOST_STAGED};
 ghost use Rattle.vbm_guest.specs.Edited.{AreNamedApart};
-ghost use Rattle.vbm_guest.specs.Flushing.{settling_all, staged_in, AreTakenAsSettled, ServesSame, Settled, MaySettle};
+ghost use Rattle.vbm_guest.specs.Flushing.{settling_all, staged_in, AreTakenAsSettled, MayBeTaken, ServesSame, Settled, MaySettle};
 ghost use Rattle.vbm_guest.specs.Memory.{HasRoomFor};
 
 use crate::planning::{count_staged, plan_all};
@@ -100,6 +100,7 @@ pub fn settle_if_full<D: Disk>(
     requires few { staged_in images.old.items ≤ 8192 }
     requires shut { D.tells → IsShutInAll (D.state disk.old).may_leave }
     requires fits { D.tells → All (FitsIn (D.state disk.old).files) images.old.items }
+    ensures images { MayBeTaken images.old.items images.new.items }
     ensures stay { OnErr result (images.new ≡ images.old) }
     ensures few { OnOk result (staged_in images.new.items < MOST_STAGED) }
     ensures spare { images.new.spare ≡ images.old.spare }

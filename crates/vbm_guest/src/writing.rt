@@ -13,7 +13,7 @@ ghost use Rattle.vbm_guest.specs.Runs.{last_of, EndsOnce, OnLast, ReplacesRun, K
 ghost use Rattle.vbm_guest.specs.Edited.{AreNamedApart, ChangesAt, StagesAtMost, IsRoomed};
 ghost use Rattle.vbm_guest.specs.Flushing.{staged_in};
 ghost use Rattle.vbm_guest.specs.Memory.{is_failed, UnlessFailed, OnWantOfMemory, HasRoomFor};
-ghost use Rattle.vbm_guest.specs.Writing.{WroteRun, WritesRun, IsInWrite};
+ghost use Rattle.vbm_guest.specs.Writing.{AreWritten, WroteRun, WritesRun, IsInWrite};
 
 use crate::flushing::settle_if_full;
 use crate::memory::{WriteFault, filled};
@@ -105,6 +105,7 @@ pub fn guest_write<D: Disk>(
     requires run { length bytes.now / 512 ≤ 256 }
     requires range { OnLast images.old.items chain.now (λ image. lba + length bytes.now / 512 ≤ sector_count image.header) }
     ensures form { All IsInForm images.new.items }
+    ensures images { AreWritten (last_of chain.now) images.old.items images.new.items }
     ensures stay { OnWantOfMemory result (ChangesAt IsRoomed (last_of chain.now) images.old.items images.new.items) }
     ensures spare { images.new.spare ≡ images.old.spare }
     ensures room { HasRoomFor (staged_in images.new.items) plan.new }
@@ -154,6 +155,7 @@ pub fn guest_fill<D: Disk>(
     requires run { count ≤ 256 }
     requires range { OnLast images.old.items chain.now (λ image. lba + count ≤ sector_count image.header) }
     ensures form { All IsInForm images.new.items }
+    ensures images { AreWritten (last_of chain.now) images.old.items images.new.items }
     ensures stay { OnWantOfMemory result (ChangesAt IsRoomed (last_of chain.now) images.old.items images.new.items) }
     ensures spare { images.new.spare ≡ images.old.spare }
     ensures room { HasRoomFor (staged_in images.new.items) plan.new }

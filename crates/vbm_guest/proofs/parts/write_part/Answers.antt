@@ -69,8 +69,10 @@ returns-in-At-clause-fits g c = λ told.
 pub returns-in-At-clause-wrote : goal.returns-in-At-clause-wrote
 returns-in-At-clause-wrote g c = λ told other at_other.
     subst (λ (x : Image). Wrote x.name x.header (file_in (g.D.Disk.state c.args.disk.now).files x)
-    (in_run (c.args.block * 2048 + c.args.first) (length c.args.bytes.now / 512)) (g.D.Disk.state c.args.disk.now) (g.D.Disk.state c.write_in_place.new.disk))
-    (same_image c.args.images.now.items (last_of c.args.chain.now) c.get.result.now other c.get.ensures at_other) (c.write_in_place.ensures.wrote told)
+    (in_run (c.args.block * 2048 + c.args.first) (length c.args.bytes.now / 512)) (g.D.Disk.state c.args.disk.now)
+    (g.D.Disk.state c.write_in_place.new.disk))
+    (same_image c.args.images.now.items (last_of c.args.chain.now) c.get.result.now other c.get.ensures at_other)
+    (c.write_in_place.ensures.wrote told)
 
 -- ---- by a copy
 

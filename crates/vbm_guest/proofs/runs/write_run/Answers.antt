@@ -1,4 +1,4 @@
-use Rattle.std.proofs.Common.{◌≡◌, ◌+◌, ◌-◌, ◌*◌, ◌/◌, ◌%◌, ◌<◌, ℕ, length, take, drop, refl, ap, subst, ◌∙◌, arith}
+use Rattle.std.proofs.Common.{◌≡◌, ◌+◌, ◌-◌, ◌*◌, ◌/◌, ◌%◌, ℕ, length, take, drop, refl, ap, subst, ◌∙◌, arith}
 use Rattle.vbm_volume.specs.Sectors.{sector_count}
 use Rattle.vbm_image.specs.Image.{IsInForm, FitsIn}
 use Rattle.vbm_image.proofs.Results.{on_ok}
@@ -63,7 +63,8 @@ returns-in_err-write_part-clause-wrote g c = λ told image is.
     let m : ℕ = 2048 - lba % 2048 in
     one_wrote lba m c.args.bytes.now (omega (arith, c.if-bytes-room.false)) c.requires.whole (lba / 2048 * 2048 + lba % 2048) (lba + m)
     (length c.split_at.result.0.now / 512) (length c.args.bytes.now / 512 - m) (first_lba lba) (omega (arith, c.split_at.ensures.front_len)) refl
-    (omega (arith, c.if-bytes-room.false)) (g.D.Disk.state c.args.disk.now) (g.D.Disk.state c.write_part-2.new.disk) (g.D.Disk.state c.write_part-2.new.disk)
+    (omega (arith, c.if-bytes-room.false)) (g.D.Disk.state c.args.disk.now) (g.D.Disk.state c.write_part-2.new.disk)
+    (g.D.Disk.state c.write_part-2.new.disk)
     image (c.write_part-2.ensures.wrote told image is)
 
 -- ---- the second
@@ -116,7 +117,8 @@ write_part-requires-3-clause-range g c = λ image is.
 pub returns-clause-changes : goal.returns-clause-changes
 returns-clause-changes g c =
     changes_trans (TakesAtMost 1) (TakesAtMost 1) (StagesAtMost 2) (last_of c.args.chain.now) c.args.images.now.items
-    c.write_part-2.new.images.items c.write_part-3.new.images.items (λ x y z one two. stages_trans 1 1 x y z one.stages two.stages) c.write_part-2.ensures.changes
+    c.write_part-2.new.images.items c.write_part-3.new.images.items (λ x y z one two. stages_trans 1 1 x y z one.stages two.stages)
+    c.write_part-2.ensures.changes
     c.write_part-3.ensures.changes
 
 pub returns-clause-replaces : goal.returns-clause-replaces
@@ -144,5 +146,6 @@ returns-clause-wrote g c = λ told image is.
     ((lba / 2048 + 1) * 2048 + 0) (length c.split_at.result.0.now / 512) (length c.split_at.result.1.now / 512) (first_lba lba)
     (omega (arith, c.split_at.ensures.front_len)) (omega arith) (omega (arith, c.split_at.ensures.back_len, c.if-bytes-room.false))
     (g.D.Disk.state c.args.disk.now) (g.D.Disk.state c.write_part-2.new.disk) (g.D.Disk.state c.write_part-3.new.disk) image other.0
-    (at_item (FitsIn (g.D.Disk.state c.args.disk.now).files) c.args.images.now.items (last_of c.args.chain.now) image (c.requires.fits told) is).accepted
+    (at_item (FitsIn (g.D.Disk.state c.args.disk.now).files) c.args.images.now.items (last_of c.args.chain.now) image (c.requires.fits told)
+    is).accepted
     other.2.stages.name other.2.stages.header (c.write_part-2.ensures.wrote told image is) (c.write_part-3.ensures.wrote told other.0 other.1)
