@@ -27,8 +27,8 @@ LINES = 10000
 # ---- files
 
 
-def image(file, entries, identifier=None):
-    """An image with this block map, and holes for data."""
+def image(file, entries, identifier=None, parent=None):
+    """An image with this block map, and holes for data; it stands on the image with the identifier `parent`, if there is one."""
     data = -(-(MIB + 4 * len(entries)) // MIB) * MIB
     head = bytearray(472)
     struct.pack_into("<4I", head, 64, 0xBEDA107F, 0x00010001, 400, 1)
@@ -36,6 +36,9 @@ def image(file, entries, identifier=None):
     struct.pack_into("<I", head, 360, 512)
     struct.pack_into("<Q4I", head, 368, len(entries) * MIB, MIB, 0, len(entries), sum(e < 0xFFFFFFFE for e in entries))
     head[392:408] = (identifier or uuid.UUID(int=1)).bytes_le
+    if parent:
+        struct.pack_into("<I", head, 76, 4)
+        head[424:440] = parent.bytes_le
     with open(file, "wb") as f:
         f.write(head)
         f.seek(MIB)
@@ -130,6 +133,23 @@ def peeks(program, has_qemu, rounds):
         os.remove("p.vdi")
 
 
+def chains(program, has_qemu, rounds):
+    """A sector of the first of many images of 1 GiB, through those above it, of which each has only free blocks."""
+    for count in (6, 24):
+        names, parent = [], None
+        for k in range(count):
+            names.append("c%d.vdi" % k)
+            image(names[-1], [0xFFFFFFFF] * (1 << 10) if k else range(1 << 10), uuid.UUID(int=k + 1), parent)
+            parent = uuid.UUID(int=k + 1)
+        if has_qemu:
+            run(["qemu-img", "convert", "-f", "vdi", "-O", "qcow2", "c0.vdi", "c0.qcow2"])
+            for k in range(1, count):
+                run(["qemu-img", "create", "-q", "-f", "qcow2", "-F", "qcow2", "-b", "c%d.qcow2" % (k - 1), "c%d.qcow2" % k])
+        lba = (1 << 21) - 5
+        theirs = Run(["qemu-io", "-r", "-f", "qcow2", "-c", "read -P 0 %d 512" % (512 * lba), "c%d.qcow2" % (count - 1)])
+        row("`peek`, a chain of %d images" % count, "1×", Run([program, "peek", *names, str(lba)]), theirs if has_qemu else None, rounds)
+
+
 def creations(program, has_qemu, rounds):
     """A new image, in a store with nothing else in it."""
     run([program, "init", str(SEED)])
@@ -182,7 +202,7 @@ def main():
         print("%s; medians of %d rounds\n" % (machine(), rounds))
         print("| What | Wanted | vbm, ms | qemu, ms | Ratio | vbm, MiB | qemu, MiB | vbm, calls + syncs | qemu, calls + syncs |")
         print("|---|---|---|---|---|---|---|---|---|")
-        for part in (peeks, creations, libraries, scripts):
+        for part in (peeks, chains, creations, libraries, scripts):
             os.mkdir(part.__name__)
             os.chdir(part.__name__)
             part(program, has_qemu, rounds)

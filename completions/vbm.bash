@@ -1,7 +1,7 @@
 # Completion of vbm for bash: source this file, or put it under /usr/share/bash-completion/completions/vbm.
 
-# The forms of commands. FILE, NAME and NEW are completed with images of the folder, except where NEW is a file to be made. A word
-# with dots may stand more than once.
+# The forms of commands. FILE, NAME and NEW are completed with images of the folder, except where NEW is a file to be made, and MODE
+# with the modes. A word with dots may stand more than once.
 # tests/people/check.py compares the table with the grammar.
 _vbm_forms='
 init
@@ -11,8 +11,16 @@ createmedium NEW --sizebyte N
 openmedium NEW
 closemedium NAME
 closemedium NAME --delete
+modifymedium NAME --type MODE
 showmediuminfo NAME
 list hdds
+createvm VM
+unregistervm VM
+list vms
+storageattach VM PORT NAME
+storageattach VM PORT none
+startvm VM
+poweroff VM
 peek FILE... LBA
 script
 --help
@@ -56,7 +64,8 @@ _vbm() {
     _vbm_begins || continue
     next=${form[${#typed[@]}]-}
     case $next in
-      '' | SEED | MB | N | LBA) ;;
+      '' | SEED | MB | N | LBA | VM | PORT) ;;
+      MODE) found+=($(compgen -W 'normal readonly writethrough' -- "$current")) ;;
       NEW) [[ ${form[0]} == createmedium ]] || found+=($(_vbm_images "$current")) ;;
       NAME | FILE) found+=($(_vbm_images "$current")) ;;
       *) [[ $next == "$current"* ]] && found+=("$next") ;;

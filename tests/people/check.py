@@ -112,6 +112,12 @@ def command_forms(definitions):
     return forms
 
 
+def modes(definitions):
+    """The modes that a served command gives a medium."""
+    served_modes = {asked[2] for asked in served() if asked[0] == "SetMode"}
+    return {first_word(body) for patterns, body in definitions.equations["mode_text"] if patterns[0][0] in served_modes}
+
+
 def families():
     """The files of definitions that the steps of served commands stand in."""
     steps = {patterns[1][0]: body.split()[0] for patterns, body in Definitions("crates", "vbm_world", "specs", "Step.antt").equations["step_of"]}
@@ -264,7 +270,7 @@ def table(*path):
     return [tuple(line.split()) for line in re.search(r"vbm_forms='\n(.*?)\n'", text(*path), re.S).group(1).split("\n")]
 
 
-def candidates(rows, typed):
+def candidates(rows, typed, modes):
     """What can come behind these words, by a table of forms."""
     found = set()
     for row in rows:
@@ -273,7 +279,7 @@ def candidates(rows, typed):
         if len(row) > len(typed) and all(r == t or r.isupper() for r, t in zip(row, typed)):
             word = row[len(typed)]
             is_file = word in ("NAME", "FILE", "FILE...") or word == "NEW" and row[0] != "createmedium"
-            found |= {word} if not word.isupper() else set(FILES) if is_file else set()
+            found |= {word} if not word.isupper() else set(FILES) if is_file else modes if word == "MODE" else set()
     return found
 
 
@@ -288,7 +294,7 @@ def asked(shell, script, queries):
     return [set(line.split()) for line in done.stdout.decode().split("\n")[:-1]]
 
 
-def completions(cases, forms):
+def completions(cases, forms, modes):
     for name, path in (("bash", "vbm.bash"), ("zsh", "_vbm")):
         rows = table("completions", path)
         cases.same("the forms of " + path, forms, {tuple(placed(w) for w in row) for row in rows})
@@ -299,10 +305,11 @@ def completions(cases, forms):
         got = asked([name, "--norc"] if name == "bash" else [name, "-f"], BASH if name == "bash" else ZSH, ["".join(w + " " for w in words) for words in typed])
         cases.holds("the answers of " + path, len(got) == len(typed), got)
         for words, found in zip(typed, got):
-            cases.same("%s behind `vbm %s`" % (path, " ".join(words)), candidates(rows, words), found)
-    begun = {"creat": {"createmedium"}, "createmedium z.vdi --size": {"--size", "--sizebyte"}, "createmedium z.vdi --sizeb": {"--sizebyte"},
+            cases.same("%s behind `vbm %s`" % (path, " ".join(words)), candidates(rows, words, modes), found)
+    begun = {"creat": {"createmedium", "createvm"}, "createmedium z.vdi --size": {"--size", "--sizebyte"}, "createmedium z.vdi --sizeb": {"--sizebyte"},
              "closemedium so": {"some.vdi"}, "closemedium some.vdi": {"some.vdi"}, "peek y": set(), "peek x.vdi so": {"some.vdi"},
-             "createmedium so": set()}
+             "createmedium so": set(), "modifymedium so": {"some.vdi"}, "modifymedium x.vdi --type w": {"writethrough"}, "list v": {"vms"},
+             "storageattach v 0 n": {"none"}, "storageattach v 0 s": {"some.vdi"}, "startvm so": set()}
     for (words, wanted), found in zip(begun.items(), asked(["bash", "--norc"], BASH, begun)):
         cases.same("vbm.bash at `vbm %s`" % words, wanted, found)
 
@@ -331,7 +338,7 @@ def main():
     cases.holds("the grammar is read", len(forms) > 8, forms)
     manual(cases, forms, definitions)
     help_text(cases, forms)
-    completions(cases, forms | own_forms())
+    completions(cases, forms | own_forms(), modes(definitions))
     examples(cases, forms)
     print("people: %d passed, %d failed" % (cases.passed, cases.failed))
     return 1 if cases.failed else 0

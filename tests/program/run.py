@@ -238,6 +238,29 @@ def media(cases):
     s.holds("a refused command writes nothing", open(s.path("a.vdi"), "rb").read() == made)
 
 
+def machines(cases):
+    s = Store(cases, "machines", [("library.vbm", library())])
+    kept = lambda: open(s.path("library.vbm"), "rb").read()
+    s.does("createmedium a.vdi --size 1", 0, b"ok " + A_ID + b"\n")
+    s.does("createvm v", 0, b"ok\n")
+    s.does("storageattach v 29 a.vdi", 0, b"ok\n")
+    disks = b"".join(b"createmedium d%02d.vdi --sizebyte 512\nstorageattach v %d d%02d.vdi\n" % (i, i, i) for i in range(29))
+    s.runs("a machine with all ports", disks, 0, b"".join(b"ok 00010203-0405-8600-8000-%012x\nok\n" % (i + 1) for i in range(29)))
+    attached = kept()
+    s.runs("a machine runs as long as the script", b"startvm v\nlist vms\nstorageattach v 29 none\n", 1, b"ok\nok 1 v:running\nerror 14 Running\n")
+    s.holds("a start changes no byte of the library", kept() == attached)
+    s.does("list vms", 0, b"ok 1 v:off\n")
+    s.does("closemedium a.vdi --delete", 1, b"error 12 InUse\n")
+    s.does("unregistervm v", 1, b"error 12 InUse\n")
+    s.runs("no slot is left", b"".join(b"storageattach v %d none\n" % i for i in range(30)), 0, 30 * b"ok\n")
+    s.runs("no disk but one is left", b"".join(b"closemedium d%02d.vdi --delete\n" % i for i in range(29)), 0, 29 * b"ok\n")
+    s.does("unregistervm v", 0, b"ok\n")
+    s.holds("nothing of the machine is left", kept() == library(30, [b"a.vdi"]))
+    names = [b"m%03d" % i for i in range(256)]
+    s.runs("the most machines, and one more", b"".join(b"createvm %s\n" % n for n in names + [b"more"]), 1, 256 * b"ok\n" + b"error 26 Full machines\n")
+    s.does("list vms", 0, b"ok 256 " + b" ".join(n + b":off" for n in names) + b"\n")
+
+
 def foreign_files(cases):
     files = [("library.vbm", library(1)), ("p.vdi", image() + data()), ("short.vdi", b"x"), ("link.vdi", image(image_type=4) + data()),
              ("ours.vdi", (image() + data()).replace(bytes.fromhex("11111111111111418111111111111111"), bytes.fromhex("03020100050400868000000000000009")))]
@@ -402,7 +425,7 @@ class Answers:
 
 def main():
     cases = Cases(os.path.abspath(sys.argv[1]))
-    for part in (sectors, chains, refusals, words, folders, outputs, media, foreign_files, refused_stores, long_records, scripts, random_scripts):
+    for part in (sectors, chains, refusals, words, folders, outputs, media, machines, foreign_files, refused_stores, long_records, scripts, random_scripts):
         part(cases)
     print("program: %d passed, %d failed" % (cases.passed, cases.failed))
     return 1 if cases.failed else 0

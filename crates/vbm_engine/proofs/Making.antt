@@ -15,7 +15,8 @@ use Rattle.vbm_standing.specs.Meaning.{none_changed, none_runs}
 use Rattle.vbm_standing.specs.Stands.{library_of, library_file, read_library, held_by, Stands, redone}
 use Rattle.vbm_standing.specs.EditedFiles.{SameMediumFiles}
 use Rattle.vbm_standing.proofs.MachineWorlds.{world-frame}
-use Rattle.vbm_standing.proofs.Stores.{held_if_store, medium_not_log, library_not_log, no_redo, not_open}
+use Rattle.vbm_standing.proofs.Redone.{no_redo, not_open}
+use Rattle.vbm_standing.proofs.Stores.{held_if_store, medium_not_log, library_not_log}
 use Rattle.vbm_engine.specs.declared.engine.Made.{Made}
 use Rattle.vbm_engine.specs.declared.engine.Made.TheVariants as made
 use Rattle.vbm_engine.specs.Opens.{empty_library, new_world, StandsNew, Makes}

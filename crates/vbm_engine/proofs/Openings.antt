@@ -1,27 +1,30 @@
 -- Opening a store.
 use Rattle.std.proofs.Common.{◌≡◌, ◌≢◌, ◌⊎◌, ℕ, ◌+◌, ◌<◌, ◌≤◌, min, Bool, true, false, cond, List, [], ◌∷◌, ◌++◌, map, length, take, drop, get_or, Option, Some, None, Result, Ok, Err, refl, sym, ap, subst, ◌∙◌, arith, inl, inr, ⊎_elim, length-take, IsTrue}
 use Rattle.std.specs.Prelude.{nat_eq, ◌||◌, ◌&&◌}
-use Rattle.std.specs.List.{starts_with, list_any}
+use Rattle.std.specs.List.{AllByRecursion, starts_with, list_any}
 use Rattle.std.specs.Str.{bytes_eq}
 use Rattle.std.proofs.lemmas.Bool.{cases_lt, lt-ltb}
 use Rattle.std.proofs.lemmas.Option.{get_or_from_slice_get}
 use Rattle.std.proofs.lemmas.List.{append-nil, take_all, drop_all, take-take, take-append-le, drop_more, map_push, map_more}
+use Rattle.std.proofs.lemmas.Simd.{map-map}
 use Rattle.vbm_ports.specs.Files.{Files, bytes_of, Reads}
 use Rattle.vbm_ports.specs.Crash.{Only}
-use Rattle.vbm_ports.specs.Names.{is_medium_name, IsStoreName}
+use Rattle.vbm_ports.specs.Names.{is_medium_name}
 use Rattle.vbm_ports.specs.Disk.{DiskState, Passes, OnlyReads, IsCoherent}
 use Rattle.vbm_ports.proofs.States.{Passes-trans, Passes-weaker}
 use Rattle.vbm_intent.specs.Changes.{log_name}
 use Rattle.vbm_intent.specs.Log.{IsOpen, IsShut, IsShutInAll, closed, SameBesidesLog, IsLikeRedone, RedoesTo, redo_has_one_result}
 use Rattle.vbm_header.specs.declared.Header.{Header}
 use Rattle.vbm_header.specs.Header.{fields}
+use Rattle.vbm_image.specs.declared.image.Image.{Image}
+use Rattle.vbm_image.specs.Image.{image_name, image_id, IsInForm}
 use Rattle.vbm_volume.proofs.Likes.{image_fields}
 use Rattle.vbm_machines.specs.declared.Machine.{Machine}
 use Rattle.vbm_machines.specs.Renumbering.{itself}
 use Rattle.vbm_named.specs.Names.{Name, has_name}
 use Rattle.vbm_world.specs.World.{World}
 use Rattle.vbm_world.specs.Loose.{Unsettled}
-use Rattle.vbm_named.proofs.Lists.{name_sym, All-get, All-every, any_none, any_map}
+use Rattle.vbm_named.proofs.Lists.{name_sym, All-map, All-get, All-every, any_none, any_map}
 use Rattle.vbm_registry.specs.declared.media.Medium.{Medium}
 use Rattle.vbm_registry.specs.declared.library.Library.{Library}
 use Rattle.vbm_registry.specs.declared.fault.BadStore.{BadStore}
@@ -42,16 +45,17 @@ use Rattle.vbm_standing.specs.Meaning.{none_runs, world_of}
 use Rattle.vbm_standing.specs.Faults.{medium_header_fault, image_fault, file_fault, medium_fault, id_in, first_fault, same_id_fault, media_fault}
 use Rattle.vbm_standing.specs.Stands.{library_file, library_of, read_library, held_by, Stands, redone, bad_log}
 use Rattle.vbm_standing.proofs.FaultFacts.{store_if_no_fault}
-use Rattle.vbm_standing.proofs.PlainStores.{fault_plain}
-use Rattle.vbm_standing.proofs.Stores.{library_not_log, stands_redone, stands_alike, stands_once, stands_shut}
+use Rattle.vbm_standing.proofs.FaultFacts.{fault_plain}
+use Rattle.vbm_standing.proofs.Redone.{stands_redone, stands_alike, stands_once, stands_shut}
+use Rattle.vbm_standing.proofs.Stores.{library_not_log}
 use Rattle.vbm_engine.specs.declared.engine.Engine.{Engine}
-use Rattle.vbm_store.specs.declared.store.Image.{Image}
 use Rattle.vbm_engine.specs.declared.engine.Opened.{Opened}
 use Rattle.vbm_engine.specs.declared.engine.Opened.TheVariants as opened
 use Rattle.vbm_store.specs.declared.store.Store.{Store}
 use Rattle.vbm_ids.specs.Identifier.{has_id}
 use Rattle.vbm_store.specs.Serves as stores
-use Rattle.vbm_store.specs.Serves.{rests, running_in, image_id, image_name, image_in, image_files, IsWritable, IsSoundStore, Holds}
+use Rattle.vbm_store.specs.Edits.{IsNewImage}
+use Rattle.vbm_store.specs.Serves.{rests, running_in, Head, head_of, head_in, IsUnstaged, image_files, IsWritable, IsSoundStore, Holds}
 use Rattle.vbm_engine.specs.Serves.{serves, IsReady}
 use Rattle.vbm_engine.specs.Recovers.{IsSettled}
 use Rattle.vbm_engine.specs.Opens.{OpensSound, StandsAlike, AreKeptRedone, Opens, SyncsFirst, AreRedone}
@@ -59,7 +63,6 @@ use Rattle.vbm_store.specs.Images.{IsRead}
 use Rattle.vbm_store.specs.declared.undone.Undone.{Undone}
 use Rattle.vbm_store.specs.declared.undone.Undone.TheVariants.{Refused, Failed, NoMemory}
 use Rattle.vbm_engine.specs.Parts.{IsRested, Finds, ids_of, fault_behind, OpensOf}
-use Rattle.vbm_store.proofs.Pushing.{medium_store}
 use Rattle.vbm_store.proofs.Keeping.{kept_itself, kept_besides}
 use Rattle.vbm_store.proofs.Readiness.{held_rests, holds_besides, unstaged_here, settled_ready}
 use Rattle.vbm_registry.specs.declared.library.TheConstants.{LONGEST_LIBRARY}
@@ -105,13 +108,31 @@ read_as name header_fault (Some f) h read = (ap (image_fault name header_fault) 
 pub medium_read : (l : NamedLibrary) (files : Files) (m : Medium) (image : Image) → image.name ≡ m.name → IsRead (files m.name) (Ok image.header)
     → (r : Result Image (Undone BadStore))
     → Finds (λ accepted. (medium_header_fault l image.name image.header ≡ None) × (accepted ≡ image)) (λ bad. medium_header_fault l image.name image.header ≡ Some bad) r
-    → Finds (λ accepted. (medium_fault l files m ≡ None) × (accepted ≡ image_in files m.name)) (λ bad. medium_fault l files m ≡ Some bad) r
+    → Finds (λ accepted. (medium_fault l files m ≡ None) × (head_of accepted ≡ head_in files m.name)) (λ bad. medium_fault l files m ≡ Some bad) r
 unfolding header_in
 medium_read l files m image name read r =
     let is = read_as m.name (medium_header_fault l m.name) (files m.name) image.header read in
     let own : medium_fault l files m ≡ medium_header_fault l image.name image.header = is.0 ∙ ap (λ n. medium_header_fault l n image.header) (sym name) in
-    let same : image ≡ image_in files m.name = λ i. record { name = name i; header = is.1 i } in
-    finds_weaker _ _ _ _ (λ accepted fine. (own ∙ fine.0, fine.1 ∙ same)) (λ bad some. own ∙ some) r
+    let same : head_of image ≡ head_in files m.name = λ i. record { name = name i; header = is.1 i } in
+    finds_weaker _ _ _ _ (λ accepted fine. (own ∙ fine.0, ap head_of fine.1 ∙ same)) (λ bad some. own ∙ some) r
+
+-- an image that is pushed behind those of earlier media
+pub image_behind : (l : Library) (files : Files) (images new : List Image) (m : Medium) (image : Image) → medium_fault (named l) files m ≡ None
+    → head_of image ≡ head_in files m.name → {X : Type 0} (r : Result X (Undone BadStore))
+    → Finds (λ _. (same_id_fault (ids_of images) image.name image.header.id ≡ None) × (new ≡ images ++ image ∷ []))
+    (λ bad. same_id_fault (ids_of images) image.name image.header.id ≡ Some bad) r
+    → Finds (λ _. (fault_behind l files (ids_of images) m ≡ None) × (map head_of new ≡ map head_of images ++ head_in files m.name ∷ []))
+    (λ bad. fault_behind l files (ids_of images) m ≡ Some bad) r
+image_behind l files images new m image fine head r =
+    let earlier = ids_of images in
+    let same : same_id_fault earlier image.name image.header.id ≡ same_id_fault earlier m.name (id_in files m) =
+    ap (λ (h : Head). same_id_fault earlier h.name h.header.id) head in
+    let behind : fault_behind l files earlier m ≡ same_id_fault earlier image.name image.header.id =
+    ap (λ o. first_fault o (same_id_fault earlier m.name (id_in files m))) fine ∙ sym same in
+    finds_weaker _ _ _ _ (λ x pushed. (
+      behind ∙ pushed.0,
+      ap (map head_of) pushed.1 ∙ map_push head_of images image ∙ ap (λ (h : Head). map head_of images ++ h ∷ []) head,
+    )) (λ bad some. behind ∙ some) r
 
 first_of_three : (a b c : Option BadStore) → first_fault a (first_fault b c) ≡ first_fault (first_fault a b) c
 first_of_three None b c = refl
@@ -130,9 +151,17 @@ pub any_id : (id : List ℕ) (images : List Image) → has_id image_id id images
 any_id id [] = refl
 any_id id (image ∷ images) = rw (name_sym image.header.id id, any_id id images) refl
 
+-- the identifiers of images, with one more
+ids_more : (images new : List Image) (head : Head) → map head_of new ≡ map head_of images ++ head ∷ []
+    → ids_of new ≡ ids_of images ++ head.header.id ∷ []
+ids_more images new head more =
+    let id : Head → List ℕ = λ (h : Head). h.header.id in
+    sym (map-map id head_of new) ∙ ap (map id) more ∙ map_push id (map head_of images) head
+    ∙ ap (λ ids. ids ++ head.header.id ∷ []) (map-map id head_of images)
+
 -- The images of the media before this place; the first fault of the others is that of all.
 pub record Opening (l : Library) (files : Files) (i : ℕ) (images : List Image) : Type 0 where
-  pub is : images ≡ map (image_in files) (map medium_entry_name (take i l.media))
+  pub is : map head_of images ≡ map (head_in files) (map medium_entry_name (take i l.media))
   pub earlier : List (List ℕ)
   pub same : (id : List ℕ) → list_any (bytes_eq id) earlier ≡ list_any (bytes_eq id) (ids_of images)
   pub rest : media_fault (named l) files earlier (drop i l.media) ≡ media_fault (named l) files [] l.media
@@ -153,17 +182,19 @@ module _ (l : Library) (files : Files) (i : ℕ) (images : List Image) (m : Medi
       ∙ ap (media_fault (named l) files so_far.earlier) (sym (drop_more l.media i m lt))
       ∙ so_far.rest
 
-  pub opening_goes_on : fault_behind l files (ids_of images) m ≡ None → Opening l files (i + 1) (images ++ image_in files m.name ∷ [])
-  opening_goes_on none = record {
-    is = ap (λ (xs : List Image). xs ++ image_in files m.name ∷ []) so_far.is
-        ∙ sym (map_push (image_in files) (map medium_entry_name (take i l.media)) m.name)
-        ∙ ap (map (image_in files)) (ap (λ (n : Medium). map medium_entry_name (take i l.media) ++ n.name ∷ []) at
+  pub opening_goes_on : (new : List Image) → fault_behind l files (ids_of images) m ≡ None
+      → map head_of new ≡ map head_of images ++ head_in files m.name ∷ [] → Opening l files (i + 1) new
+  opening_goes_on new none more = record {
+    is = more
+        ∙ ap (λ (heads : List Head). heads ++ head_in files m.name ∷ []) so_far.is
+        ∙ sym (map_push (head_in files) (map medium_entry_name (take i l.media)) m.name)
+        ∙ ap (map (head_in files)) (ap (λ (n : Medium). map medium_entry_name (take i l.media) ++ n.name ∷ []) at
         ∙ sym (map_more medium_entry_name l.media i m lt));
     earlier = id_in files m ∷ so_far.earlier;
     same = λ id.
         ap (λ b. bytes_eq id (id_in files m) || b) (so_far.same id)
         ∙ sym (any_end (bytes_eq id) (ids_of images) (id_in files m))
-        ∙ ap (list_any (bytes_eq id)) (sym (map_push (λ (image : Image). image.header.id) images (image_in files m.name)));
+        ∙ ap (list_any (bytes_eq id)) (sym (ids_more images new (head_in files m.name) more));
     rest = ap (λ o. first_fault o later) (sym none) ∙ next_fault;
   }
 
@@ -171,10 +202,10 @@ module _ (l : Library) (files : Files) (i : ℕ) (images : List Image) (m : Medi
   opening_stops bad some = sym next_fault ∙ ap (λ o. first_fault o later) some
 
 pub opening_ends : (l : Library) (files : Files) (i : ℕ) (images : List Image) → length l.media ≤ i → Opening l files i images
-    → (media_fault (named l) files [] l.media ≡ None) × (images ≡ map (image_in files) (map medium_entry_name l.media))
+    → (media_fault (named l) files [] l.media ≡ None) × (map head_of images ≡ map (head_in files) (map medium_entry_name l.media))
 opening_ends l files i images past so_far = (
   sym so_far.rest ∙ ap (media_fault (named l) files so_far.earlier) (drop_all i l.media past),
-  so_far.is ∙ ap (λ (ms : List Medium). map (image_in files) (map medium_entry_name ms)) (take_all i l.media past),
+  so_far.is ∙ ap (λ (ms : List Medium). map (head_in files) (map medium_entry_name ms)) (take_all i l.media past),
 )
 
 -- ---- the library that was read
@@ -197,27 +228,44 @@ decoded_writable l decoded = let has = decoded_rules BUILT l decoded in record {
 
 pub holds_from : (tells : Type 0) (told : tells) (old new : DiskState) → OnlyReads tells old new → (l : Library) (images : List Image)
     → IsDecoded BUILT keeps_places l → library_of old.files ≡ Ok l
-    → (media_fault (named l) new.files [] l.media ≡ None) × (images ≡ map (image_in new.files) (map medium_entry_name l.media)) → Holds l images old.files
+    → (media_fault (named l) new.files [] l.media ≡ None) × (map head_of images ≡ map (head_in new.files) (map medium_entry_name l.media))
+    → Holds l images old.files
 holds_from tells told old new reads l images decoded read opened =
-    let here = subst (λ f. (media_fault (named l) f [] l.media ≡ None) × (images ≡ map (image_in f) (map medium_entry_name l.media)))
+    let here = subst (λ f. (media_fault (named l) f [] l.media ≡ None) × (map head_of images ≡ map (head_in f) (map medium_entry_name l.media)))
     (reads.files told) opened in
     record {
       read = read ∙ ap Ok (sym (decoded_off l decoded));
-      store = store_if_no_fault (named l) old.files (fault_plain l old.files (no_inners l decoded) ∙ here.0);
-      headers = here.1 ∙ ap (map (image_in old.files)) (sym (media_files l decoded));
+      store = store_if_no_fault (named l) old.files (fault_plain (named l) old.files
+          (ap (λ (xs : List Inner). map (inner_named (medium_names l.media)) xs) (no_inners l decoded)) ∙ here.0);
+      headers = here.1 ∙ ap (map (head_in old.files)) (sym (media_files l decoded));
     }
 
--- a medium's file has a name of the store
-pub store_name : (l : Library) → IsDecoded BUILT keeps_places l → (i : ℕ) (m : Medium) → i < length l.media → m ≡ get_or l.media i m
-    → IsStoreName m.name
-store_name l decoded i m less at =
+-- the names of images that are open, with one more
+pub names_more : (l : Library) (i : ℕ) (images : List Image) (m : Medium) → i < length l.media → m ≡ get_or l.media i m
+    → map image_name images ≡ map medium_entry_name (take i l.media)
+    → map image_name images ++ m.name ∷ [] ≡ map medium_entry_name (take (i + 1) l.media)
+names_more l i images m less at so_far =
+    ap (λ (names : List Name). names ++ m.name ∷ []) so_far
+    ∙ ap (λ (n : Medium). map medium_entry_name (take i l.media) ++ n.name ∷ []) at
+    ∙ sym (map_more medium_entry_name l.media i m less)
+
+-- a medium's name is one
+pub name_at : (l : Library) → IsDecoded BUILT keeps_places l → (i : ℕ) (m : Medium) → i < length l.media → m ≡ get_or l.media i m
+    → IsTrue (is_medium_name m.name)
+name_at l decoded i m less at =
     let x = item_at l.media i less in
-    subst (λ (n : Medium). IsStoreName n.name) (sym (at ∙ get_or_from_slice_get l.media i x.0 m x.1))
-    (medium_store x.0.name (All-get (λ (n : Medium). IsTrue (is_medium_name n.name)) l.media i x.0 (decoded_writable l decoded).rules.media x.1))
+    subst (λ (n : Medium). IsTrue (is_medium_name n.name)) (sym (at ∙ get_or_from_slice_get l.media i x.0 m x.1))
+    (All-get (λ (n : Medium). IsTrue (is_medium_name n.name)) l.media i x.0 (decoded_writable l decoded).rules.media x.1)
 
 -- a store that was read is sound
-pub sound_if_read : (e : Store) → IsDecoded BUILT keeps_places e.library → map image_name e.images ≡ image_files (named e.library) → IsSoundStore e
-sound_if_read e decoded names = record { library = decoded_writable e.library decoded; images = names }
+pub sound_if_read : (e : Store) → IsDecoded BUILT keeps_places e.library → map image_name e.images ≡ image_files (named e.library)
+    → AllByRecursion IsNewImage e.images → IsSoundStore e
+sound_if_read e decoded names new = record {
+  library = decoded_writable e.library decoded;
+  images = names;
+  form = All-map IsNewImage IsInForm (λ image is. is.form) e.images new;
+  unstaged = All-map IsNewImage IsUnstaged (λ image is. is.unstaged) e.images new;
+}
 
 -- where nothing runs and nothing has changed, the world at rest is served
 serves_rests : (e : Store) (files : Files) → IsRested e → stores.serves e files ≡ rests e.library files

@@ -18,6 +18,7 @@ use Rattle.vbm_store.specs.declared.decision.Turn.{Turn}
 use Rattle.vbm_store.specs.declared.store.Committed.TheVariants.{Done}
 use Rattle.vbm_store.specs.Commits.{HandsBack}
 use Rattle.vbm_store.specs.Steps.{Manages, IsSoundTurn}
+use Rattle.vbm_store.proofs.Edits.{sound_after}
 use Rattle.vbm_store.proofs.Readiness as readiness
 use Rattle.vbm_store.proofs.Turning.{stands_more, read_passes, manage_passes}
 use Rattle.vbm_engine.specs.declared.engine.Engine.{Engine}
@@ -54,6 +55,7 @@ module _ {tells : Type 0} (e : Store) (c : Command) {old mid : DiskState} (reads
           inr (subst (λ v. StandsLoosely (off v) (unsettled_after u w c) image) (ap (λ (o : Outcome). o.1) owes.by) after)
 
 -- a commit leaves a sound store
-pub sound_turn : (e : Store) (turn : Turn) → IsSoundTurn e turn → (next : Store) → HandsBack e turn.library turn.edit (Done next) → stores.IsSoundStore next
-sound_turn e turn sound next back =
-    subst stores.IsSoundStore (sym back) (record { library = sound.0; images = sound.1 })
+pub sound_turn : (e : Store) (turn : Turn) → stores.IsSoundStore e → IsSoundTurn e turn → (next : Store)
+    → HandsBack e turn.library turn.edit (Done next) → stores.IsSoundStore next
+sound_turn e turn before sound next back =
+    subst stores.IsSoundStore (sym back) (sound_after e turn.library turn.edit next.log before sound.0 sound.1 sound.2)

@@ -1,6 +1,7 @@
 -- The parts of opening a store.
 use Rattle.std.specs.Prelude.{◌≡◌, ℕ, List, [], map, Option, Result, Ok, Err}
 use Rattle.vbm_ports.specs.Files.{Files}
+use Rattle.vbm_image.specs.declared.image.Image.{Image}
 use Rattle.vbm_registry.specs.declared.fault.BadStore.{BadStore}
 use Rattle.vbm_registry.specs.declared.library.Library.{Library}
 use Rattle.vbm_registry.specs.declared.media.Medium.{Medium}
@@ -8,7 +9,6 @@ use Rattle.vbm_registry.specs.Grammar.{library_off}
 use Rattle.vbm_registry.specs.Named.{named}
 use Rattle.vbm_standing.specs.Faults.{first_fault, medium_fault, same_id_fault, id_in}
 use Rattle.vbm_standing.specs.Stands.{held_by}
-use Rattle.vbm_store.specs.declared.store.Image.{Image}
 use Rattle.vbm_store.specs.declared.store.Store.{Store}
 use Rattle.vbm_engine.specs.declared.engine.Opened.{Opened}
 use Rattle.vbm_engine.specs.declared.engine.Opened.TheVariants as opened

@@ -3,6 +3,7 @@ use Rattle.std.specs.Prelude.{Bool, true, false}
 use Rattle.vbm_ports.specs.Files.{Files}
 use Rattle.vbm_ports.specs.Disk.{DiskState}
 use Rattle.vbm_world.specs.declared.command.Command.{Command}
+use Rattle.vbm_world.specs.declared.command.Command.TheVariants.{ShowMediumInfo, ListHdds, ListVms}
 use Rattle.vbm_world.specs.declared.command.Answer.{Answer}
 use Rattle.vbm_world.specs.World.{World}
 use Rattle.vbm_world.specs.Step.{step_of}
@@ -14,6 +15,13 @@ use Rattle.vbm_engine.specs.declared.engine.Engine.{Engine}
 use Rattle.vbm_engine.specs.declared.engine.Stepped.{Stepped}
 use Rattle.vbm_engine.specs.declared.engine.Stepped.TheVariants.{Next, NoMemory, Broken}
 use Rattle.vbm_engine.specs.Serves.{IsSoundEngine}
+
+-- a command that only asks
+abbrev pub asks : Command → Bool
+asks (ShowMediumInfo name) = true
+asks ListHdds = true
+asks ListVms = true
+asks command = false
 
 -- the engine `next`, with the answer, is a step on from e
 abbrev pub Advances : DiskState → DiskState → Engine → Engine → Command → Answer → Type 0

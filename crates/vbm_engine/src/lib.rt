@@ -3,6 +3,7 @@
 
 mod engine;
 mod init;
+mod machines;
 mod managing;
 mod opening;
 mod recover;

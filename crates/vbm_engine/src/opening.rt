@@ -1,14 +1,16 @@
 //! Opening a store.
 
-ghost use Rattle.std.specs.Prelude.{◌≡◌, ◌≢◌, ◌⊎◌, ◌+◌, ◌^◌, ◌≤◌, min, length, ◌∷◌, ◌++◌, [], ℕ, List, map, Option, Some, None, Result, Ok, Err, IfOk, OnOk, false};
-ghost use Rattle.std.specs.List.{list_any};
+ghost use Rattle.std.specs.Prelude.{◌≡◌, ◌≢◌, ◌⊎◌, ◌+◌, ◌^◌, ◌≤◌, min, length, ◌∷◌, ◌++◌, [], ℕ, List, map, Option, Some, None, Result, Ok, Err, IfOk, OnOk, IsTrue, false};
+ghost use Rattle.std.specs.List.{AllByRecursion, list_any};
 ghost use Rattle.std.specs.Str.{bytes_eq};
 ghost use Rattle.vbm_ports.specs.Files.{bytes_of};
 ghost use Rattle.vbm_ports.specs.Counts.{IsCounted};
 ghost use Rattle.vbm_ports.specs.Crash.{Only};
 ghost use Rattle.vbm_ports.specs.Disk.{Passes, OnlyReads};
-ghost use Rattle.vbm_ports.specs.Names.{IsStoreName};
+ghost use Rattle.vbm_ports.specs.Names.{is_medium_name};
 ghost use Rattle.vbm_header.specs.declared.Header.{Header};
+ghost use Rattle.vbm_image.specs.Image.{image_name};
+ghost use Rattle.vbm_image.specs.Opened.{IsOpenedFrom, is_device_fault};
 ghost use Rattle.vbm_intent.specs.Changes.{log_name};
 ghost use Rattle.vbm_intent.specs.Log.{IsOpen, recorded_size};
 ghost use Rattle.vbm_registry.specs.Library.{library_name, medium_entry_name};
@@ -19,8 +21,8 @@ ghost use Rattle.vbm_registry.specs.Named.{named};
 ghost use Rattle.vbm_standing.specs.Faults.{medium_header_fault, file_fault, medium_fault, same_id_fault, media_fault};
 ghost use Rattle.vbm_standing.specs.Stands.{library_of, read_library, held_by};
 ghost use Rattle.vbm_store.specs.Undone.{is_failed, has_failed};
-ghost use Rattle.vbm_store.specs.Images.{OpensImage, is_failed_image};
-ghost use Rattle.vbm_store.specs.Serves.{image_name, image_in, image_files, Holds};
+ghost use Rattle.vbm_store.specs.Edits.{IsNewImage};
+ghost use Rattle.vbm_store.specs.Serves.{head_of, head_in, image_files, Holds};
 ghost use Rattle.vbm_engine.specs.Opens.{Opens, SyncsFirst, OpensSound, opening_failed, StandsAlike};
 ghost use Rattle.vbm_engine.specs.Parts.{OnBad, Finds, ids_of, fault_behind, OpensOf};
 ghost use Rattle.vbm_intent.specs.declared.limits.TheConstants.{LONGEST_BODY};
@@ -30,10 +32,11 @@ use crate::recover::{BadLog, recover_record};
 use std::alloc::Global;
 use uuid::Uuid;
 use vbm_ids::{has_id, is_foreign};
+use vbm_image::{Image, OpenFault, open_image};
 use vbm_intent::{Log, record_size};
 use vbm_ports::{Disk, Failed, LIBRARY_NAME, NoMemory, Text};
 use vbm_registry::{BadStore, DecodeFault, LONGEST_LIBRARY, Library, Medium, decode};
-use vbm_store::{Changed, Image, Images, OpenFault, Store, Undone, open_image};
+use vbm_store::{Changed, Images, Store, Undone};
 
 /// Opens a store: makes the changes that wait in its log, and reads its library and every image of it. The first fault of the
 /// store is the answer otherwise; its files then stay, but for a log whose gate was open, whose changes are made. A crash inside
@@ -137,6 +140,7 @@ fn start<D: Disk>(alloc: Global, disk: &mut D, library: Library, images: Images)
     requires holds { D.tells → Holds library images (D.state disk.old).files }
     requires rules { IsDecoded built keeps_places library }
     requires names { map image_name images ≡ image_files (named library) }
+    requires new { AllByRecursion IsNewImage images }
     ensures opens { D.tells → Opens (D.state disk.old) (D.state disk.new) result }
     ensures sound { OpensSound result }
     ensures any_moment { D.tells
@@ -162,6 +166,7 @@ fn load<D: Disk>(alloc: Global, disk: &mut D) -> Result<(Library, Images), Undon
         (λ x. Holds x.0 x.1 (D.state disk.old).files) (λ bad. held_by (D.state disk.old).files ≡ Err bad) result }
     ensures rules { IfOk result (λ x. IsDecoded built keeps_places x.0) }
     ensures names { IfOk result (λ x. map image_name x.1 ≡ image_files (named x.0)) }
+    ensures new { IfOk result (λ x. AllByRecursion IsNewImage x.1) }
     ensures reads { OnlyReads D.tells (D.state disk.old) (D.state disk.new) }
     ensures faults { IsCounted (has_failed result) (D.state disk.old).faults (D.state disk.new).faults }
 {
@@ -241,9 +246,10 @@ fn open_images<D: Disk>(
     requires { IsDecoded built keeps_places library.now }
     ensures told { D.tells → Finds
         (λ images. (media_fault (named library.now) (D.state disk.old).files [] library.now.media ≡ None)
-        × (images ≡ map (image_in (D.state disk.old).files) (map medium_entry_name library.now.media)))
+        × (map head_of images ≡ map (head_in (D.state disk.old).files) (map medium_entry_name library.now.media)))
         (λ bad. media_fault (named library.now) (D.state disk.old).files [] library.now.media ≡ Some bad) result }
     ensures names { IfOk result (λ images. map image_name images ≡ map medium_entry_name library.now.media) }
+    ensures new { IfOk result (λ images. AllByRecursion IsNewImage images) }
     ensures reads { OnlyReads D.tells (D.state disk.old) (D.state disk.new) }
     ensures faults { IsCounted (has_failed result) (D.state disk.old).faults (D.state disk.new).faults }
 {
@@ -262,12 +268,13 @@ fn add_image<D: Disk>(
     medium: &Medium,
     images: &mut Images,
 ) -> Result<(), Undone<BadStore>>
-    requires { IsStoreName medium.now.name }
+    requires { IsTrue (is_medium_name medium.now.name) }
     ensures told { D.tells → Finds
         (λ _. (fault_behind library.now (D.state disk.old).files (ids_of images.old) medium.now ≡ None)
-        × (images.new ≡ images.old ++ image_in (D.state disk.old).files medium.now.name ∷ []))
+        × (map head_of images.new ≡ map head_of images.old ++ head_in (D.state disk.old).files medium.now.name ∷ []))
         (λ bad. fault_behind library.now (D.state disk.old).files (ids_of images.old) medium.now ≡ Some bad) result }
     ensures names { OnOk result (map image_name images.new ≡ map image_name images.old ++ medium.now.name ∷ []) }
+    ensures new { OnOk result (AllByRecursion IsNewImage images.old → AllByRecursion IsNewImage images.new) }
     ensures reads { OnlyReads D.tells (D.state disk.old) (D.state disk.new) }
     ensures faults { IsCounted (has_failed result) (D.state disk.old).faults (D.state disk.new).faults }
 {
@@ -280,13 +287,24 @@ fn push_image(images: &mut Images, image: Image) -> Result<(), Undone<BadStore>>
     ensures told { Finds
         (λ _. (same_id_fault (ids_of images.old) image.name image.header.id ≡ None) × (images.new ≡ images.old ++ image ∷ []))
         (λ bad. same_id_fault (ids_of images.old) image.name image.header.id ≡ Some bad) result }
+    ensures pushed { OnOk result (images.new ≡ images.old ++ image ∷ []) }
     ensures no_fault { has_failed result ≡ false }
 {
-    let Image { name, header } = image;
+    let Image {
+        name,
+        header,
+        pending,
+        used,
+    } = image;
     if has_id(images.as_slice(), header.id) {
         return Err(Undone::Refused(BadStore::SameId(name)));
     }
-    match images.push(Image { name, header }) {
+    match images.push(Image {
+        name,
+        header,
+        pending,
+        used,
+    }) {
         Ok(()) => Ok(()),
         Err(NoMemory) => Err(Undone::NoMemory),
     }
@@ -299,12 +317,13 @@ fn open_medium<D: Disk>(
     library: &Library,
     medium: &Medium,
 ) -> Result<Image, Undone<BadStore>>
-    requires { IsStoreName medium.now.name }
+    requires { IsTrue (is_medium_name medium.now.name) }
     ensures told { D.tells → Finds
         (λ image. (medium_fault (named library.now) (D.state disk.old).files medium.now ≡ None)
-        × (image ≡ image_in (D.state disk.old).files medium.now.name))
+        × (head_of image ≡ head_in (D.state disk.old).files medium.now.name))
         (λ bad. medium_fault (named library.now) (D.state disk.old).files medium.now ≡ Some bad) result }
     ensures name { IfOk result (λ image. image.name ≡ medium.now.name) }
+    ensures new { IfOk result IsNewImage }
     ensures reads { OnlyReads D.tells (D.state disk.old) (D.state disk.new) }
     ensures faults { IsCounted (has_failed result) (D.state disk.old).faults (D.state disk.new).faults }
 {
@@ -320,23 +339,34 @@ fn accept(library: &Library, image: Image) -> Result<Image, Undone<BadStore>>
     ensures told { Finds
         (λ accepted. (medium_header_fault (named library.now) image.name image.header ≡ None) × (accepted ≡ image))
         (λ bad. medium_header_fault (named library.now) image.name image.header ≡ Some bad) result }
+    ensures same { IfOk result (λ accepted. accepted ≡ image) }
     ensures no_fault { has_failed result ≡ false }
 {
-    let Image { name, header } = image;
+    let Image {
+        name,
+        header,
+        pending,
+        used,
+    } = image;
     if header.image_type.is_differencing() {
         return Err(Undone::Refused(BadStore::WrongType(name)));
     }
     if is_foreign(library.seed, library.next, header.id) {
         return Err(Undone::Refused(BadStore::WrongId(name)));
     }
-    Ok(Image { name, header })
+    Ok(Image {
+        name,
+        header,
+        pending,
+        used,
+    })
 }
 
 // What is said of a store whose medium of this name was not opened.
 fn fault_of_file(alloc: Global, name: &[u8], fault: OpenFault) -> Undone<BadStore>
-    ensures bad { (header_fault : Header → Option BadStore) → (file : Option (List ℕ)) → OpensImage (Err fault) file
+    ensures bad { (header_fault : Header → Option BadStore) → (file : Option (List ℕ)) → IsOpenedFrom file (Err fault)
         → OnBad (λ bad. file_fault name.now header_fault file ≡ Some bad) result }
-    ensures cause { is_failed result ≡ is_failed_image fault }
+    ensures cause { is_failed result ≡ is_device_fault (Err fault) }
 {
     match fault {
         OpenFault::Failed => Undone::Failed,

@@ -1,6 +1,6 @@
 //! Steps of an engine.
 
-ghost use Rattle.std.specs.Prelude.{◌≤◌, Ok, OnOk, OnErr, ◌≡◌};
+ghost use Rattle.std.specs.Prelude.{◌≤◌, Ok, OnOk, OnErr, ◌≡◌, IfOk, IfErr, false};
 ghost use Rattle.vbm_ports.specs.Counts.{Rose, IsCounted};
 ghost use Rattle.vbm_ports.specs.Crash.{Only};
 ghost use Rattle.vbm_ports.specs.Disk.{Passes, OnlyReads};
@@ -11,17 +11,62 @@ ghost use Rattle.vbm_standing.specs.Stands.{Stands};
 ghost use Rattle.vbm_store.specs.Kept.{AreKept};
 ghost use Rattle.vbm_store.specs.Serves.{IsSoundStore, FitsDisk as StoreFits, StandsLoosely};
 ghost use Rattle.vbm_store.specs.Undone.{has_failed};
-ghost use Rattle.vbm_store.specs.Steps.{Decides, DecidesSound};
+ghost use Rattle.vbm_store.specs.Steps.{Decides, DecidesSound, Plans, Refuses, IsSoundTurn};
 ghost use Rattle.vbm_engine.specs.Serves.{serves, IsSoundEngine, FitsDisk, IsReady};
-ghost use Rattle.vbm_engine.specs.Steps.{Hands, HandsSound, IsInCommand, step_failed};
+ghost use Rattle.vbm_engine.specs.Steps.{Hands, HandsSound, IsInCommand, asks, step_failed};
 
 use crate::engine::{Engine, Stepped};
+use crate::machines::{
+    attach_medium, create_vm, detach_medium, power_off, set_mode, start_vm, unregister_vm,
+};
 use crate::managing::{close_medium, create_medium, open_medium};
 use std::alloc::Global;
 use vbm_media::{answer_list, answer_show};
 use vbm_ports::{Disk, Failed};
+use vbm_slots::answer_list_vms;
 use vbm_store::{Committed, Decision, Store, Turn, Undone};
 use vbm_world::{Answer, Command, Refusal};
+
+// Decides a command that changes the library or what runs.
+fn decide_turn<D: Disk>(
+    alloc: Global,
+    store: &mut Store,
+    disk: &mut D,
+    command: &Command,
+) -> Result<Turn, Undone<Refusal>>
+    requires sound { IsSoundStore store.old }
+    requires served { IsServed command.now }
+    requires turns { asks command.now ≡ false }
+    requires fits { D.tells → StoreFits store.old (D.state disk.old) }
+    ensures store { store.new ≡ store.old }
+    ensures plans { D.tells → IfOk result (Plans (D.state disk.old).files store.old command.now) }
+    ensures refused { D.tells → IfErr result (Refuses (D.state disk.old).files store.old command.now) }
+    ensures sound { IfOk result (IsSoundTurn store.old) }
+    ensures reads { OnlyReads D.tells (D.state disk.old) (D.state disk.new) }
+    ensures faults { IsCounted (has_failed result) (D.state disk.old).faults (D.state disk.new).faults }
+{
+    match command {
+        Command::CreateMedium {
+            name,
+            size,
+            variant,
+        } => create_medium(alloc, store, disk, name.bytes(), *size, *variant),
+        Command::OpenMedium { name } => open_medium(alloc, store, disk, name.bytes()),
+        Command::CloseMedium { name, delete } => {
+            close_medium(alloc, store, disk, name.bytes(), *delete)
+        }
+        Command::SetMode { name, mode } => set_mode(alloc, store, disk, name.bytes(), *mode),
+        Command::CreateVm { name } => create_vm(alloc, store, disk, name.bytes()),
+        Command::UnregisterVm { vm } => unregister_vm(alloc, store, disk, vm.bytes()),
+        Command::Attach { vm, port, name } => {
+            attach_medium(alloc, store, disk, vm.bytes(), *port, name.bytes())
+        }
+        Command::Detach { vm, port } => detach_medium(alloc, store, disk, vm.bytes(), *port),
+        Command::StartVm { vm } => start_vm(alloc, store, disk, vm.bytes()),
+        Command::PowerOff { vm } => power_off(alloc, store, disk, vm.bytes()),
+        _ => unreachable!(),
+    }
+}
 
 /// Decides a command. Until it is known to be done, the store is only read.
 pub(crate) fn decide<D: Disk>(
@@ -40,27 +85,10 @@ pub(crate) fn decide<D: Disk>(
     ensures faults { IsCounted (has_failed result) (D.state disk.old).faults (D.state disk.new).faults }
 {
     match command {
-        Command::CreateMedium {
-            name,
-            size,
-            variant,
-        } => Ok(Decision::Turn(create_medium(alloc, store, disk, name.bytes(), *size, *variant)?)),
-        Command::OpenMedium { name } => Ok(Decision::Turn(open_medium(
-            alloc,
-            store,
-            disk,
-            name.bytes(),
-        )?)),
-        Command::CloseMedium { name, delete } => Ok(Decision::Turn(close_medium(
-            alloc,
-            store,
-            disk,
-            name.bytes(),
-            *delete,
-        )?)),
         Command::ShowMediumInfo { name } => Ok(Decision::Answer(answer_show(store, name.bytes())?)),
         Command::ListHdds => Ok(Decision::Answer(answer_list(alloc, store)?)),
-        _ => unreachable!(),
+        Command::ListVms => Ok(Decision::Answer(answer_list_vms(alloc, store)?)),
+        _ => Ok(Decision::Turn(decide_turn(alloc, store, disk, command)?)),
     }
 }
 

@@ -12,6 +12,12 @@ use Rattle.vbm_blockmap.specs.Used.{marked_count}
 use Rattle.vbm_blockmap.specs.declared.used.TheConstants.{POSITION_LIMIT}
 use Rattle.vbm_image.specs.declared.image.Image.{Image}
 
+abbrev pub image_name : Image → List ℕ
+image_name image = image.name
+
+abbrev pub image_id : Image → List ℕ
+image_id image = image.header.id
+
 -- the bytes of an image's file
 abbrev pub file_in : Files → Image → List ℕ
 file_in files image = bytes_of (files image.name)

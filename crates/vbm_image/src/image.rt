@@ -10,10 +10,13 @@ ghost use Rattle.vbm_volume.specs.Like.{sector_at};
 ghost use Rattle.vbm_volume.specs.Wrote.{sectors_at, Wrote};
 ghost use Rattle.vbm_blockmap.specs.Entry.{word_of_entry, IsEntry};
 ghost use Rattle.vbm_blockmap.specs.Pending.{position_in};
-ghost use Rattle.vbm_image.specs.Image.{file_in, staged_word, IsInForm, FitsIn};
+ghost use Rattle.vbm_image.specs.Image.{image_name, image_id, file_in, staged_word, IsInForm, FitsIn};
 
+use uuid::Uuid;
 use vbm_blockmap::{Entry, Pending, Used, entry_of};
 use vbm_header::{BLOCK_LEN, Header, SECTOR_LEN};
+use vbm_ids::Identified;
+use vbm_named::Named;
 use vbm_ports::{Disk, Failed, Text};
 use vbm_volume::{read_words, word_at};
 
@@ -28,6 +31,22 @@ pub struct Image {
     pub pending: Pending,
     /// Which positions have an entry, where that was looked up. Others may be marked, too.
     pub used: Option<Used>,
+}
+
+impl Named for Image {
+    ghost name_of = { image_name };
+
+    fn name(&self) -> &[u8] {
+        self.name.bytes()
+    }
+}
+
+impl Identified for Image {
+    ghost id_of = { image_id };
+
+    fn id(&self) -> Uuid {
+        self.header.id
+    }
 }
 
 /// The entry of a block: the staged one, or that of the file, for which the disk is called once. It fails where the disk does.

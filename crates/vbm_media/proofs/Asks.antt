@@ -8,6 +8,8 @@ use Rattle.std.proofs.lemmas.List.{map-append, take_more}
 use Rattle.std.proofs.lemmas.Option.{get_or_from_slice_get, slice_get_within}
 use Rattle.vbm_ports.specs.Files.{Files}
 use Rattle.vbm_header.specs.declared.Header.{Header}
+use Rattle.vbm_image.specs.declared.image.Image.{Image}
+use Rattle.vbm_image.specs.Image.{image_name}
 use Rattle.vbm_machines.specs.Renumbering.{itself}
 use Rattle.vbm_registry.specs.declared.media.Medium.{Medium}
 use Rattle.vbm_registry.specs.Library.{medium_entry_name}
@@ -26,8 +28,7 @@ use Rattle.vbm_world.specs.declared.command.Command.TheVariants.{ShowMediumInfo,
 use Rattle.vbm_world.specs.declared.command.Refusal.TheVariants.{NoSuchMedium}
 use Rattle.vbm_named.proofs.Lists.{same_name, find_named, others-none, none-others, find_map}
 use Rattle.vbm_store.specs.declared.store.Store.{Store}
-use Rattle.vbm_store.specs.declared.store.Image.{Image}
-use Rattle.vbm_store.specs.Serves.{serves, changed_of, running_of, image_name, image_in, image_files, IsSoundStore, Holds}
+use Rattle.vbm_store.specs.Serves.{serves, changed_of, running_of, Head, head_name, head_of, head_in, image_files, IsSoundStore, Holds}
 use Rattle.vbm_store.specs.Steps.{Answers}
 use Rattle.vbm_store.proofs.Turning.{quiet_if_written}
 
@@ -48,23 +49,27 @@ All-first P [] ys all = tt
 All-first P (x ∷ xs) ys all = (all.0, All-first P xs ys all.1)
 
 module _ (e : Store) (files : Files) (name : Name) where
-  find_image : Holds e.library e.images files → find_by image_name name e.images
-      ≡ option_map (image_in files) (find_by itself name (image_files (named e.library)))
-  find_image holds = ap (find_by image_name name) holds.headers
-      ∙ find_map (image_in files) itself image_name (λ n. refl) name (image_files (named e.library))
+  find_head : Holds e.library e.images files → option_map head_of (find_by image_name name e.images)
+      ≡ option_map (head_in files) (find_by itself name (image_files (named e.library)))
+  find_head holds =
+      sym (find_map head_of image_name head_name (λ x. refl) name e.images)
+      ∙ ap (find_by head_name name) holds.headers
+      ∙ find_map (head_in files) itself head_name (λ n. refl) name (image_files (named e.library))
 
   -- no image of the name, no medium of it
   pub no_medium : Holds e.library e.images files → find_by image_name name e.images ≡ None → find_by medium_entry_name name e.library.media ≡ None
   no_medium holds none =
-      let others = others-none itself name (image_files (named e.library)) (none_mapped (image_in files) _ (sym (find_image holds) ∙ none)) in
+      let others = others-none itself name (image_files (named e.library))
+      (none_mapped (head_in files) _ (sym (find_head holds) ∙ ap (option_map head_of) none)) in
       none-others medium_entry_name name e.library.media
       (All-from_map medium_entry_name (λ n. bytes_eq n name ≡ false) e.library.media (All-first _ (map medium_entry_name e.library.media) _ others))
 
-  -- the image of a name is that of its file
-  pub image_found : Holds e.library e.images files → (image : Image) → find_by image_name name e.images ≡ Some image → image ≡ image_in files name
+  -- the image of a name has the head of its file
+  pub image_found : Holds e.library e.images files → (image : Image) → find_by image_name name e.images ≡ Some image → head_of image ≡ head_in files name
   image_found holds image there =
-      let of = some_mapped (image_in files) (find_by itself name (image_files (named e.library))) image (sym (find_image holds) ∙ there) in
-      sym of.2 ∙ ap (image_in files) (same_name of.0 name (find_named itself name of.0 (image_files (named e.library)) of.1))
+      let of = some_mapped (head_in files) (find_by itself name (image_files (named e.library))) (head_of image)
+      (sym (find_head holds) ∙ ap (option_map head_of) there) in
+      sym of.2 ∙ ap (head_in files) (same_name of.0 name (find_named itself name of.0 (image_files (named e.library)) of.1))
 
   pub shows_none : find_by medium_entry_name name e.library.media ≡ None → Answers files e (ShowMediumInfo name) (Refused NoSuchMedium)
   shows_none none =
@@ -82,7 +87,7 @@ module _ (e : Store) (files : Files) (name : Name) where
       medium_of-world (changed_of e) (running_of e) l files name ∙ ap (option_map (medium_in (changed_of e) l files)) is in
       let named_so : name ≡ m.name = sym (same_name m.name name (find_named medium_entry_name name m e.library.media is)) in
       let header : image.header ≡ header_in files m.name =
-      ap (λ (x : Image). x.header) (image_found holds image there) ∙ ap (header_in files) named_so in
+      ap (λ (head : Head). head.header) (image_found holds image there) ∙ ap (header_in files) named_so in
       let quiet = quiet_if_written e.library sound.library in
       let unmerged : l.merging ≡ [] = ap (map (merging_named (medium_names e.library.media))) quiet.merging in
       let modify : image.header.modify ≡ v.modify =

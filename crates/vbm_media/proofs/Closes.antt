@@ -7,6 +7,7 @@ use Rattle.std.proofs.Math.Bool.{and-false}
 use Rattle.vbm_ports.specs.Files.{Files}
 use Rattle.vbm_ports.specs.Names.{is_medium_name}
 use Rattle.vbm_ports.proofs.NameLemmas.{store_name_short}
+use Rattle.vbm_image.specs.Image.{image_name}
 use Rattle.vbm_intent.specs.declared.change.Change.{Change}
 use Rattle.vbm_intent.specs.declared.log.Log.{Log}
 use Rattle.vbm_intent.specs.declared.change.Change.TheVariants.{Remove}
@@ -44,12 +45,13 @@ use Rattle.vbm_store.specs.declared.images.Edit.TheVariants as edits
 use Rattle.vbm_store.specs.Edits.{store_after}
 use Rattle.vbm_media.specs.Closes.{CanClose, removal}
 use Rattle.vbm_store.specs.Plans.{library_changes}
-use Rattle.vbm_store.specs.Serves.{serves, changed_of, running_of, image_name, image_files, IsWritable, IsSoundStore, Holds}
+use Rattle.vbm_store.specs.Serves.{serves, changed_of, running_of, image_files, IsWritable, IsSoundStore, Holds}
 use Rattle.vbm_store.specs.Kept.{KeepsBytes}
 use Rattle.vbm_store.specs.Steps.{Manages, Answers}
 use Rattle.vbm_store.proofs.Keeping.{kept_images}
 use Rattle.vbm_store.proofs.Turning.{manages}
 use Rattle.vbm_store.proofs.Decisions.{medium_not_library, inner_not_library, image_not_library, kept_or}
+use Rattle.vbm_store.proofs.Edits.{sound_after}
 use Rattle.vbm_store.proofs.GoneMedia.{inner_other, gone_writable, gone_images, gone_holds, gone_serves}
 use Rattle.vbm_store.proofs.Planned.{library_frame, library_fits}
 use Rattle.vbm_store.proofs.Pushing.{medium_store}
@@ -185,7 +187,7 @@ module _ (e : Store) (files : Files) (name : Name) (delete : Bool) (holds : Hold
 
     closes_some : (log : Log) → Manages files e (CloseMedium name delete) plan (store_after e left (edits.Remove name) log) Done
     closes_some log = manages files e (CloseMedium name delete) plan (store_after e left (edits.Remove name) log) Done
-        (record { library = closed_writable e.library name sound.library can; images = images_less e name sound can })
+        (sound_after e left (edits.Remove name) log sound (closed_writable e.library name sound.library can) (images_less e name sound can) tt)
         (library_fits (removal name delete) left files apart (removal_fits name delete named files))
         (gone_holds e name sound.library can.there unused files now others (removal name delete) refl apart holds)
         (now_by log)

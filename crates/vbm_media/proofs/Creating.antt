@@ -9,9 +9,13 @@ use Rattle.vbm_ports.specs.Files.{Files}
 use Rattle.vbm_ports.specs.Names.{is_name_character, is_medium_name, is_inner_name}
 use Rattle.vbm_header.specs.declared.Header.{Header}
 use Rattle.vbm_header.specs.Header.{is_differencing}
-use Rattle.vbm_volume.specs.Image.{image_of}
-use Rattle.vbm_volume.specs.Made.{made_image}
+use Rattle.vbm_image.specs.declared.image.Image.{Image}
+use Rattle.vbm_image.specs.Image.{image_name}
+use Rattle.vbm_image.specs.Opened.{IsFresh}
+use Rattle.vbm_volume.specs.Image.{image_of, IsSoundHeader}
+use Rattle.vbm_volume.specs.Made.{IsNewHeader, made_image}
 use Rattle.vbm_volume.specs.declared.flat.Variant.TheVariants.{Standard}
+use Rattle.vbm_volume.proofs.NewHeaders.{new_laid_out, enough as has_room}
 use Rattle.vbm_volume.proofs.NewImages.{made_accepted, made_flat}
 use Rattle.vbm_ids.specs.declared.Kind.TheVariants as kinds
 use Rattle.vbm_ids.specs.declared.TheConstants.{NUMBER_LIMIT}
@@ -40,24 +44,25 @@ use Rattle.vbm_standing.specs.Faults.{id_in}
 use Rattle.vbm_standing.proofs.HeaderFacts.{header_of_file}
 use Rattle.vbm_standing.proofs.InnerFileNames.{inner_named_so}
 use Rattle.vbm_standing.proofs.MediaWorlds.{SameOthers}
-use Rattle.vbm_standing.proofs.Stores.{own_of_file}
+use Rattle.vbm_standing.proofs.Stores.{medium_not_log, own_of_file}
 use Rattle.vbm_standing.proofs.WorldLookups.{is_medium-world, foreign-new, is_on_shelf}
 use Rattle.vbm_standing.proofs.Worlds.{drawn_foreign, drawn_known, with_shelved_none}
 use Rattle.vbm_store.specs.declared.store.Store.{Store}
-use Rattle.vbm_store.specs.declared.store.Image.{Image}
 use Rattle.vbm_store.specs.declared.images.Edit.TheVariants.{Put}
-use Rattle.vbm_store.specs.Edits.{store_after}
+use Rattle.vbm_store.specs.Edits.{IsNewImage, store_after}
 use Rattle.vbm_store.specs.declared.decision.Turn.{Turn}
 use Rattle.vbm_store.specs.Plans.{library_changes, image_changes}
 use Rattle.vbm_media.specs.Creates.{first_check, CanCreate, new_entry, library_made as made_library, IsNewMedium, MayCreate, Creates}
-use Rattle.vbm_store.specs.Serves.{image_name, image_files, serves, changed_of, running_of, IsWritable, IsSoundStore, Holds}
+use Rattle.vbm_store.specs.Serves.{image_files, serves, changed_of, running_of, IsWritable, IsSoundStore, Holds}
 use Rattle.vbm_store.specs.Kept.{KeepsBytes}
 use Rattle.vbm_store.specs.Steps.{Manages, Plans, IsSoundTurn}
 use Rattle.vbm_store.proofs.Keeping.{kept_images}
 use Rattle.vbm_store.proofs.Turning.{quiet_if_written, manages}
 use Rattle.vbm_store.proofs.Decisions.{medium_not_library, inner_not_library, image_not_library}
+use Rattle.vbm_store.proofs.Edits.{sound_after}
 use Rattle.vbm_store.proofs.GoneMedia.{inner_other}
 use Rattle.vbm_store.proofs.Planned.{library_frame, library_fits, image_alone, image_made, image_fits, image_frame}
+use Rattle.vbm_store.proofs.Pushing.{medium_store}
 use Rattle.vbm_store.proofs.PutMedia.{IsComing, put_writable, put_images, put_medium, put_holds, put_serves}
 
 -- ---- names
@@ -117,10 +122,38 @@ pub made_writable : (l : Library) (name : Name) (capacity : ℕ) → IsWritable 
 made_writable l name capacity is named can =
     put_writable l (new_entry name) (l.next + 1) is (quiet_if_written l is).making can.new named refl can.room (omega arith) (omega (arith, can.next))
 
-pub made_images : (e : Store) (name : Name) (h : Header) → IsSoundStore e → IsTrue (is_medium_name name)
-    → map image_name (put_by image_name (record { name = name; header = h }) e.images) ≡ image_files (library_named (made_library e.library name))
-made_images e name h sound named =
-    put_images e.library (new_entry name) (e.library.next + 1) named (record { name = name; header = h }) e.images refl sound.images
+pub made_images : (e : Store) (name : Name) (image : Image) → image.name ≡ name → IsSoundStore e → IsTrue (is_medium_name name)
+    → map image_name (put_by image_name image e.images) ≡ image_files (library_named (made_library e.library name))
+made_images e name image called sound named =
+    put_images e.library (new_entry name) (e.library.next + 1) named image e.images called sound.images
+
+new_sound : (h : Header) → IsNewHeader h → IsSoundHeader h
+new_sound h new =
+    let laid = new_laid_out h new in
+    let sizes = has_room h laid in
+    record {
+      header_end = omega (arith, new.off_blocks);
+      sectors = new.sectors;
+      some = new.some;
+      most = new.most;
+      blocks = sizes.1;
+      enough = sizes.0;
+      map = omega (arith, new.off_blocks);
+      before_data = sizes.2;
+      allocated = omega (arith, laid.allocated, sizes.1);
+    }
+
+-- a fresh image with a new header comes to the store
+fresh_new : (image : Image) → IsTrue (is_medium_name image.name) → IsNewHeader image.header → IsFresh image → IsNewImage image
+fresh_new image named new fresh = record {
+  form = record {
+    name = medium_store image.name named;
+    not_log = medium_not_log image.name named;
+    header = new_sound image.header new;
+    staged = rw fresh.staged (record { once = tt; block = λ b p at. absurd cc; low = λ b p at. absurd cc });
+  };
+  unstaged = fresh.staged;
+}
 
 -- ---- the files and the world
 
@@ -136,9 +169,12 @@ kept (Some f) None same = tt
 kept (Some f) (Some g) same = cc
 
 -- a medium that no check refuses, over files that the store fits
-module _ (files : Files) (e : Store) (name : Name) (size : Size) (h : Header) (sound : IsSoundStore e) (holds : Holds e.library e.images files)
+module _ (files : Files) (e : Store) (name : Name) (size : Size) (image : Image) (sound : IsSoundStore e) (holds : Holds e.library e.images files)
     (named : IsTrue (is_medium_name name)) (can : CanCreate e.library name (capacity_of size)) (absent : files name ≡ None)
-    (medium : IsNewMedium e.library (capacity_of size) h) where
+    (called : image.name ≡ name) (medium : IsNewMedium e.library (capacity_of size) image.header) where
+  abbrev h : Header
+  h = image.header
+
   abbrev l : NamedLibrary
   l = library_named e.library
 
@@ -150,9 +186,6 @@ module _ (files : Files) (e : Store) (name : Name) (size : Size) (h : Header) (s
 
   abbrev now : Files
   now = changed plan files
-
-  abbrev image : Image
-  image = record { name = name; header = h }
 
   alone : of_file library_name (image_changes name h) ≡ []
   alone = image_alone name library_name h (name_sym name library_name ∙ medium_not_library name named)
@@ -190,7 +223,7 @@ module _ (files : Files) (e : Store) (name : Name) (size : Size) (h : Header) (s
     named_so = named;
     others = others;
     grows = omega arith;
-    same = refl;
+    same = called;
     there = file_now;
     accepted = accepted_now;
     file = own_of_file (record l { next = l.next + 1 }) now (new_entry name) (made_image h) h file_now accepted_now
@@ -221,13 +254,11 @@ module _ (files : Files) (e : Store) (name : Name) (size : Size) (h : Header) (s
       (λ i. (Id (medium.id i), world_now log i))
       ∙ ap (λ o. refused_or (serves e files) o (create_outcome (serves e files) name (capacity_of size))) (sym none)
 
-  pub created : first_refusal (create_checks (serves e files) name (capacity_of size)) ≡ None → (log : Log)
+  pub created : first_refusal (create_checks (serves e files) name (capacity_of size)) ≡ None → IsNewImage image → (log : Log)
       → Manages files e (CreateMedium name size Standard) plan (store_after e made (Put image) log) (Id h.id)
-  created none log = manages files e (CreateMedium name size Standard) plan (store_after e made (Put image) log) (Id h.id)
-      (record {
-        library = made_writable e.library name (capacity_of size) sound.library named can;
-        images = made_images e name h sound named;
-      })
+  created none new log = manages files e (CreateMedium name size Standard) plan (store_after e made (Put image) log) (Id h.id)
+      (sound_after e made (Put image) log sound (made_writable e.library name (capacity_of size) sound.library named can)
+      (made_images e name image called sound named) new)
       (library_fits (image_changes name h) made files alone (image_fits h medium.new name files absent))
       (put_holds e (new_entry name) (l.next + 1) image files now (made_image h) sound.library.rules coming header_now (image_changes name h) files refl
       alone holds)
@@ -243,18 +274,29 @@ module _ (files : Files) (e : Store) (name : Name) (size : Size) (h : Header) (s
       let no : true ≡ false = sym named ∙ ap is_medium_name same ∙ inner_not_medium other inner in
       absurd cc)) ∙ gone)
 
+-- the image that the code makes
+new_of : (e : Store) (name : Name) (capacity : ℕ) (turn : Turn) → IsTrue (is_medium_name name) → (creates : Creates e name capacity turn)
+    → IsNewImage creates.image
+new_of e name capacity turn named creates =
+    fresh_new creates.image (subst (λ n. IsTrue (is_medium_name n)) (sym creates.named_so) named) creates.medium.new creates.fresh
+
 -- the same, of what the code decides
 pub turned : (files : Files) (e : Store) (name : Name) (size : Size) (turn : Turn)
     → IsSoundStore e → Holds e.library e.images files → IsTrue (is_medium_name name) → CanCreate e.library name (capacity_of size)
     → MayCreate files e name (capacity_of size) → Creates e name (capacity_of size) turn → Plans files e (CreateMedium name size Standard) turn
 turned files e name size turn sound holds named can may creates log =
-    let changes : turn.plan.changes ≡ image_changes name creates.header ++ library_changes (made_library e.library name) =
-    creates.changes ∙ ap (λ l. image_changes name creates.header ++ library_changes l) creates.made in
-    let t = created files e name size creates.header sound holds named can may.absent creates.medium may.allowed log in
+    let h = creates.image.header in
+    let changes : turn.plan.changes ≡ image_changes name h ++ library_changes (made_library e.library name) =
+    creates.changes ∙ ap (λ l. image_changes name h ++ library_changes l) creates.made in
+    let t = created files e name size creates.image sound holds named can may.absent creates.named_so creates.medium may.allowed
+    (new_of e name (capacity_of size) turn named creates) log in
     rw (creates.made, creates.placed, changes, creates.answer) t
 
 pub turned_sound : (e : Store) (name : Name) (capacity : ℕ) (turn : Turn) → IsSoundStore e → IsTrue (is_medium_name name) → CanCreate e.library name capacity
     → Creates e name capacity turn → IsSoundTurn e turn
 turned_sound e name capacity turn sound named can creates =
-    rw (creates.made, creates.placed)
-    (made_writable e.library name capacity sound.library named can, made_images e name creates.header sound named)
+    rw (creates.made, creates.placed) (
+      made_writable e.library name capacity sound.library named can,
+      made_images e name creates.image creates.named_so sound named,
+      new_of e name capacity turn named creates,
+    )

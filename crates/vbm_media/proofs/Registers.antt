@@ -11,6 +11,11 @@ use Rattle.vbm_ports.specs.Names.{is_medium_name}
 use Rattle.vbm_header.specs.declared.BadImage.{BadImage}
 use Rattle.vbm_header.specs.declared.Header.{Header}
 use Rattle.vbm_header.specs.Header.{is_differencing, condition_number}
+use Rattle.vbm_image.specs.declared.image.Image.{Image}
+use Rattle.vbm_image.specs.declared.opening.OpenFault.{OpenFault}
+use Rattle.vbm_image.specs.declared.opening.OpenFault.TheVariants as faults
+use Rattle.vbm_image.specs.Image.{image_name, image_id}
+use Rattle.vbm_image.specs.Opened.{IsOpenedFrom}
 use Rattle.vbm_volume.specs.Image.{image_of}
 use Rattle.vbm_intent.specs.declared.change.Change.{Change}
 use Rattle.vbm_intent.specs.declared.log.Log.{Log}
@@ -45,24 +50,23 @@ use Rattle.vbm_world.specs.declared.command.Refusal.{Refusal}
 use Rattle.vbm_world.specs.declared.command.Refusal.TheVariants.{NameTaken, NoSuchFile, NotAnImage}
 use Rattle.vbm_named.proofs.Lists.{All-every, has_found, any_map}
 use Rattle.vbm_store.specs.declared.store.Store.{Store}
-use Rattle.vbm_store.specs.declared.image.OpenFault.{OpenFault}
-use Rattle.vbm_store.specs.declared.image.OpenFault.TheVariants as faults
 use Rattle.vbm_store.specs.declared.images.Edit.TheVariants.{Put}
-use Rattle.vbm_store.specs.declared.store.Image.{Image}
-use Rattle.vbm_store.specs.Edits.{store_after}
+use Rattle.vbm_store.specs.Edits.{IsNewImage, store_after}
 use Rattle.vbm_media.specs.Creates.{new_entry}
-use Rattle.vbm_store.specs.Images.{IsRead, OpensImage}
+use Rattle.vbm_store.specs.Images.{IsRead}
 use Rattle.vbm_store.specs.Plans.{library_changes}
 use Rattle.vbm_media.specs.Registers.{image_checks, undone_by}
-use Rattle.vbm_store.specs.Serves.{image_id, serves, changed_of, running_of, image_name, image_in, image_files, media_images, IsWritable, IsSoundStore, Holds}
+use Rattle.vbm_store.specs.Serves.{serves, changed_of, running_of, Head, head_of, head_in, image_files, media_images, IsWritable, IsSoundStore, Holds}
 use Rattle.vbm_store.specs.Kept.{KeepsBytes}
 use Rattle.vbm_store.specs.Steps.{Manages, Answers, Refuses}
+use Rattle.vbm_store.proofs.Edits.{sound_after}
 use Rattle.vbm_store.proofs.Keeping.{kept_images}
 use Rattle.vbm_store.proofs.Listing.{media_first}
 use Rattle.vbm_store.proofs.Turning.{quiet_if_written, manages}
 use Rattle.vbm_store.proofs.Decisions.{medium_not_library, inner_not_library, image_not_library, kept_or}
 use Rattle.vbm_store.proofs.Planned.{library_frame, library_fits}
 use Rattle.vbm_store.proofs.PutMedia.{IsComing, put_writable, put_images, put_holds, put_serves}
+use Rattle.vbm_store.proofs.Reading.{read_of}
 use Rattle.vbm_media.proofs.Creating.{unmade}
 
 passes : (b : Bool) (refusal : Refusal) (o : Option Refusal) → cond b (Some refusal) o ≡ None → (b ≡ false) × (o ≡ None)
@@ -110,10 +114,10 @@ opens_taken e files name m is = refuses e files name NameTaken (rw (is_medium-wo
 abbrev library_opened : Library → Name → Library
 library_opened l name = with_medium_entry l (new_entry name)
 
-pub images_more : (e : Store) (image : Image) → IsSoundStore e → IsTrue (is_medium_name image.name)
-    → map image_name (put_by image_name image e.images) ≡ image_files (library_named (library_opened e.library image.name))
-images_more e image sound named =
-    put_images e.library (new_entry image.name) e.library.next named image e.images refl sound.images
+pub images_more : (e : Store) (image : Image) (name : Name) → image.name ≡ name → IsSoundStore e → IsTrue (is_medium_name name)
+    → map image_name (put_by image_name image e.images) ≡ image_files (library_named (library_opened e.library name))
+images_more e image name called sound named =
+    put_images e.library (new_entry name) e.library.next named image e.images called sound.images
 
 pub library_more : (e : Store) (h : Header) (name : Name) → first_refusal (image_checks e.library (media_images e) h) ≡ None → IsWritable e.library
     → IsTrue (is_medium_name name) → has_name medium_entry_name name e.library.media ≡ false → IsWritable (library_opened e.library name)
@@ -144,24 +148,28 @@ module _ (e : Store) (files : Files) (name : Name) (holds : Holds e.library e.im
       refuses e files name (NotAnImage (condition_number bad)) (sym (opens ∙ rw (f.there, shelved_of_file f.file (Err bad) f.is) refl))
 
   -- a file that is not opened
-  pub not_opened : (fault : OpenFault) → OpensImage (Err fault) (files name) → Refuses files e (OpenMedium name) (undone_by fault)
+  pub not_opened : (fault : OpenFault) → IsOpenedFrom (files name) (Err fault) → Refuses files e (OpenMedium name) (undone_by fault)
   not_opened faults.Missing none = opens_missing none
-  not_opened (faults.Bad bad) read = opens_bad bad read
+  not_opened (faults.Bad bad) says = opens_bad bad (read_of (files name) (Err bad) says)
   not_opened faults.Failed told = tt
   not_opened faults.NoMemory told = tt
 
   has_id_here : (id : List ℕ) → has_id medium_id id (serves e files).media ≡ has_id image_id id (media_images e)
   has_id_here id =
       has_id-world (changed_of e) (running_of e) l files id
-      ∙ sym (ap (has_id image_id id) (media_first e files holds)
-      ∙ any_map (image_in files) (λ (i : Image). bytes_eq i.header.id id) (map medium_entry_name e.library.media)
+      ∙ sym (sym (any_map head_of (λ (head : Head). bytes_eq head.header.id id) (media_images e))
+      ∙ ap (list_any (λ (head : Head). bytes_eq head.header.id id)) (media_first e files holds)
+      ∙ any_map (head_in files) (λ (head : Head). bytes_eq head.header.id id) (map medium_entry_name e.library.media)
       ∙ any_map medium_entry_name (λ n. bytes_eq (header_in files n).id id) e.library.media)
 
   full_here : is_full (serves e files) ≡ nat_le MEDIA_LIMIT (length e.library.media)
   unfolding world_of
   full_here = ap (nat_le MEDIA_LIMIT) (length-map e.library.media (medium_in (changed_of e) l files))
 
-  module _ (h : Header) (read : IsRead (files name) (Ok h)) where
+  module _ (image : Image) (read : IsRead (files name) (Ok image.header)) where
+    abbrev h : Header
+    h = image.header
+
     f : IsFile files name (Ok h)
     f = file_read files name (Ok h) (files name) refl read
 
@@ -180,15 +188,13 @@ module _ (e : Store) (files : Files) (name : Name) (holds : Holds e.library e.im
         → Answers files e (OpenMedium name) (Refused refusal)
     opens_refused refusal is = refuses e files name refusal (sym (opens_image ∙ rw is refl))
 
-    module _ (allowed : first_refusal (image_checks e.library (media_images e) h) ≡ None) where
+    module _ (called : image.name ≡ name) (new : IsNewImage image)
+        (allowed : first_refusal (image_checks e.library (media_images e) h) ≡ None) where
       is_welcome : IsWelcome e.library (media_images e) h
       is_welcome = welcome e.library (media_images e) h allowed
 
       abbrev more : Library
       more = library_opened e.library name
-
-      abbrev image : Image
-      image = record { name = name; header = h }
 
       abbrev now : Files
       now = changed (library_changes more) files
@@ -216,7 +222,7 @@ module _ (e : Store) (files : Files) (name : Name) (holds : Holds e.library e.im
         named_so = named;
         others = others;
         grows = omega arith;
-        same = refl;
+        same = called;
         there = here;
         accepted = f.is;
         file = own_of_file l now (new_entry name) f.file h here f.is is_welcome.whole is_welcome.known;
@@ -231,7 +237,8 @@ module _ (e : Store) (files : Files) (name : Name) (holds : Holds e.library e.im
 
       opens_more : (log : Log) → Manages files e (OpenMedium name) (library_changes more) (store_after e more (Put image) log) (Id h.id)
       opens_more log = manages files e (OpenMedium name) (library_changes more) (store_after e more (Put image) log) (Id h.id)
-          (record { library = library_more e h name allowed sound.library named free; images = images_more e image sound named })
+          (sound_after e more (Put image) log sound (library_more e h name allowed sound.library named free)
+          (images_more e image name called sound named) new)
           (library_fits [] more files refl (λ n. tt))
           (put_holds e (new_entry name) e.library.next image files now f.file sound.library.rules coming header [] files refl refl holds)
           (more_by log)

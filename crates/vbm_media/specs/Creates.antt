@@ -3,6 +3,8 @@ use Rattle.std.specs.Prelude.{◌≡◌, ℕ, ◌+◌, ◌<◌, Bool, [], ◌∷
 use Rattle.vbm_ports.specs.Files.{Files}
 use Rattle.vbm_header.specs.declared.Header.{Header}
 use Rattle.vbm_header.specs.declared.ImageType.TheVariants.{Dynamic}
+use Rattle.vbm_image.specs.declared.image.Image.{Image}
+use Rattle.vbm_image.specs.Opened.{IsFresh}
 use Rattle.vbm_volume.specs.Made.{IsNewHeader}
 use Rattle.vbm_ids.specs.declared.Kind.TheVariants as kinds
 use Rattle.vbm_ids.specs.declared.TheConstants.{NUMBER_LIMIT}
@@ -61,9 +63,11 @@ pub record MayCreate (files : Files) (e : Store) (name : Name) (capacity : ℕ) 
 
 -- the turn to a store with the medium
 pub record Creates (e : Store) (name : Name) (capacity : ℕ) (turn : Turn) : Type 0 where
-  pub header : Header
-  pub medium : IsNewMedium e.library capacity header
+  pub image : Image
+  pub named_so : image.name ≡ name
+  pub medium : IsNewMedium e.library capacity image.header
+  pub fresh : IsFresh image
   pub made : turn.library ≡ library_made e.library name
-  pub placed : turn.edit ≡ Put (record { name = name; header = header })
-  pub changes : turn.plan.changes ≡ image_changes name header ++ library_changes turn.library
-  pub answer : turn.answer ≡ Id header.id
+  pub placed : turn.edit ≡ Put image
+  pub changes : turn.plan.changes ≡ image_changes name image.header ++ library_changes turn.library
+  pub answer : turn.answer ≡ Id image.header.id

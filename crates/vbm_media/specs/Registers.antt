@@ -3,6 +3,10 @@ use Rattle.std.specs.Prelude.{◌≡◌, false, None, List, [], ◌∷◌, lengt
 use Rattle.vbm_header.specs.declared.Header.{Header}
 use Rattle.vbm_named.specs.Names.{has_name}
 use Rattle.vbm_header.specs.Header.{is_differencing, condition_number}
+use Rattle.vbm_image.specs.declared.image.Image.{Image}
+use Rattle.vbm_image.specs.declared.opening.OpenFault.{OpenFault}
+use Rattle.vbm_image.specs.declared.opening.OpenFault.TheVariants as faults
+use Rattle.vbm_image.specs.Image.{image_id}
 use Rattle.vbm_world.specs.declared.command.Refusal.{Refusal}
 use Rattle.vbm_world.specs.declared.command.Refusal.TheVariants.{DuplicateId, ForeignId, Full, BrokenChain, NoSuchFile, NotAnImage}
 use Rattle.vbm_world.specs.declared.command.Which.TheVariants.{Media}
@@ -11,13 +15,11 @@ use Rattle.vbm_world.specs.declared.limits.TheConstants.{MEDIA_LIMIT}
 use Rattle.vbm_world.specs.Refusals.{Check, first_refusal}
 use Rattle.vbm_registry.specs.declared.library.Library.{Library}
 use Rattle.vbm_registry.specs.Library.{medium_entry_name}
-use Rattle.vbm_store.specs.declared.image.OpenFault.{OpenFault}
-use Rattle.vbm_store.specs.declared.image.OpenFault.TheVariants as faults
-use Rattle.vbm_store.specs.declared.store.Image.{Image}
 use Rattle.vbm_store.specs.declared.store.Store.{Store}
 use Rattle.vbm_store.specs.declared.undone.Undone.{Undone}
 use Rattle.vbm_store.specs.declared.undone.Undone.TheVariants as undone
-use Rattle.vbm_store.specs.Serves.{image_id, media_images}
+use Rattle.vbm_store.specs.Edits.{IsNewImage}
+use Rattle.vbm_store.specs.Serves.{media_images}
 
 -- An image has an identifier that no medium's image has, and none that the library may yet give; there is room; and it needs no parent.
 abbrev pub image_checks : Library → List Image → Header → List Check
@@ -32,6 +34,7 @@ image_checks l images h =
 pub record CanOpen (e : Store) (image : Image) : Type 0 where
   pub free : has_name medium_entry_name image.name e.library.media ≡ false
   pub allowed : first_refusal (image_checks e.library (media_images e) image.header) ≡ None
+  pub new : IsNewImage image
 
 -- what comes of it that a file is not opened
 abbrev pub undone_by : OpenFault → Undone Refusal

@@ -15,10 +15,11 @@ ghost use Rattle.vbm_store.specs.Steps.{Answers, Refuses};
 
 use std::alloc::Global;
 use vbm_header::ImageType;
+use vbm_image::Image;
 use vbm_named::names::find;
 use vbm_ports::{Names, NoMemory, Text};
 use vbm_registry::{Library, Media, Medium};
-use vbm_store::{Image, Store, Undone, is_frozen};
+use vbm_store::{Store, Undone, is_frozen};
 use vbm_volume::Variant;
 use vbm_world::{Answer, Refusal};
 

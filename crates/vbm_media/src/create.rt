@@ -23,13 +23,15 @@ ghost use Rattle.vbm_store.specs.Steps.{Refuses, Plans, IsSoundTurn};
 ghost use Rattle.vbm_media.specs.Creates.{first_check, library_made, CanCreate, IsNewMedium, MayCreate, Creates};
 
 use std::alloc::Global;
+use vbm_blockmap::Pending;
 use vbm_header::Header;
 use vbm_ids::{Kind, NUMBER_LIMIT, id_of};
+use vbm_image::Image;
 use vbm_intent::Plan;
 use vbm_modes::Mode;
 use vbm_ports::{Disk, Failed, NoMemory, Text};
 use vbm_registry::{Library, Medium};
-use vbm_store::{Edit, Image, Store, Turn, Undone, plan_image, plan_library};
+use vbm_store::{Edit, Store, Turn, Undone, plan_image, plan_library};
 use vbm_volume::{Variant, new_header};
 use vbm_world::{Answer, MEDIA_LIMIT, Refusal, Size, Which, is_bad_size};
 
@@ -174,6 +176,8 @@ fn turn_of(
     let image = Image {
         name: Text::new(alloc, name)?,
         header,
+        pending: Pending::new(alloc),
+        used: None,
     };
     Ok(Turn {
         library,

@@ -12,6 +12,7 @@ ghost use Rattle.vbm_registry.specs.Rules.{IsLibrary};
 ghost use Rattle.vbm_named.specs.Names.{has_name};
 ghost use Rattle.vbm_world.specs.Refusals.{first_refusal};
 ghost use Rattle.vbm_world.specs.declared.command.Command.TheVariants.{OpenMedium};
+ghost use Rattle.vbm_store.specs.Edits.{IsNewImage};
 ghost use Rattle.vbm_store.specs.Images.{IsRead};
 ghost use Rattle.vbm_store.specs.Plans.{library_changes};
 ghost use Rattle.vbm_media.specs.Creates.{new_entry};
@@ -24,11 +25,12 @@ use std::alloc::Global;
 use uuid::Uuid;
 use vbm_header::Header;
 use vbm_ids::{Identified, has_id, is_foreign};
+use vbm_image::{Image, OpenFault, open_image};
 use vbm_intent::Plan;
 use vbm_modes::Mode;
 use vbm_ports::{Disk, NoMemory, Text};
 use vbm_registry::{Library, Medium};
-use vbm_store::{Edit, Image, OpenFault, Store, Turn, Undone, open_image, plan_library};
+use vbm_store::{Edit, Store, Turn, Undone, library_plan};
 use vbm_world::{Answer, MEDIA_LIMIT, Refusal, Which};
 
 // Why an accepted image is refused.
@@ -66,15 +68,6 @@ fn library_with(alloc: Global, library: &Library, name: &[u8]) -> Result<Library
     )
 }
 
-fn library_plan(alloc: Global, library: &Library) -> Result<Plan, NoMemory>
-    requires library { IsWritable library.now }
-    ensures { IfOk result (λ plan. plan.changes ≡ library_changes library.now) }
-{
-    let mut plan = Plan::new(alloc);
-    plan_library(alloc, &mut plan, library)?;
-    Ok(plan)
-}
-
 // The library with the image's medium, and the plan.
 fn add_entry(alloc: Global, store: &Store, image: &Image) -> Result<(Library, Plan), NoMemory>
     requires rules { IsLibrary (named store.now.library) }
@@ -93,6 +86,7 @@ fn check_image(store: &Store, image: Image) -> Result<Image, Undone<Refusal>>
     requires sound { IsSoundStore store.now }
     requires name { IsTrue (is_medium_name image.name) }
     requires free { has_name medium_entry_name image.name store.now.library.media ≡ false }
+    requires new { IsNewImage image }
     ensures refused { (files : Files) → Holds store.now.library store.now.images files
         → IsRead (files image.name) (Ok image.header) → IfErr result (Refuses files store.now (OpenMedium image.name)) }
     ensures same { IfOk result (λ it. it ≡ image) }

@@ -14,8 +14,7 @@ pub mod MediaListed
 pub mod MakingsListed
 pub mod FieldsApart
 pub mod FileLengths
-pub mod PlainFiles
-pub mod PlainReads
+pub mod NamesRead
 pub mod InnersListed
 pub mod SlotsListed
 pub mod SnapshotsListed

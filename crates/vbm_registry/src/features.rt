@@ -18,11 +18,11 @@ pub struct Features {
 
 /// The parts that some command makes. What is built later is let in here, and nowhere else.
 pub const BUILT: Features = Features {
-    shared_modes: false,
+    shared_modes: true,
     layered_modes: false,
     inner_images: false,
-    machines: false,
-    slots: false,
+    machines: true,
+    slots: true,
     snapshots: false,
     makings: false,
     mergings: false,

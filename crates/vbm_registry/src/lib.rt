@@ -3,6 +3,7 @@
 
 mod cursor;
 mod decoding;
+mod edits;
 mod encoding;
 mod entry_names;
 mod fault;

@@ -145,3 +145,14 @@ store_if_no_fault l files none =
 pub no_fault_if_store : (l : NamedLibrary) (files : Files) → IsStore l files → store_fault l files ≡ None
 no_fault_if_store l files store =
     rw (no_fault l files [] l.media store.media store.distinct (All-every (IsNew files []) (λ m. refl) l.media)) (no_inners_fault l files l.inners store.inners)
+
+-- ---- a store without inner images
+
+first_alone : (o : Option BadStore) → first_fault o None ≡ o
+first_alone None = refl
+first_alone (Some bad) = refl
+
+-- the first fault is that of the media
+pub fault_plain : (l : NamedLibrary) (files : Files) → l.inners ≡ [] → store_fault l files ≡ media_fault l files [] l.media
+fault_plain l files none =
+    ap (λ xs. first_fault (media_fault l files [] l.media) (inners_fault l files xs)) none ∙ first_alone (media_fault l files [] l.media)

@@ -1,6 +1,6 @@
 pub mod HeaderFacts
-pub mod PlainStores
 pub mod Stores
+pub mod Redone
 pub mod Worlds
 pub mod ChainLaws
 pub mod ChainFrames

@@ -7,6 +7,8 @@ use Rattle.std.proofs.lemmas.Bool.{false_from_ne_true}
 use Rattle.std.proofs.lemmas.List.Elements.{filter-append}
 use Rattle.vbm_ports.specs.Files.{Files}
 use Rattle.vbm_ports.specs.Names.{is_medium_name}
+use Rattle.vbm_image.specs.declared.image.Image.{Image}
+use Rattle.vbm_image.specs.Image.{image_name}
 use Rattle.vbm_intent.specs.declared.change.Change.{Change}
 use Rattle.vbm_intent.specs.declared.log.Log.{Log}
 use Rattle.vbm_intent.specs.Changes.{of_file, changed}
@@ -35,11 +37,10 @@ use Rattle.vbm_standing.proofs.MediaRules.{gone-rules}
 use Rattle.vbm_standing.proofs.MediaStores.{store-without_medium}
 use Rattle.vbm_standing.proofs.MediaWorlds.{SameOthers, named-listed, world-without_medium}
 use Rattle.vbm_store.specs.declared.store.Store.{Store}
-use Rattle.vbm_store.specs.declared.store.Image.{Image}
 use Rattle.vbm_store.specs.declared.images.Edit.TheVariants.{Remove}
 use Rattle.vbm_store.specs.Edits.{store_after}
 use Rattle.vbm_store.specs.Plans.{library_changes}
-use Rattle.vbm_store.specs.Serves.{serves, changed_of, running_of, image_name, image_in, image_files, IsWritable, Holds}
+use Rattle.vbm_store.specs.Serves.{serves, changed_of, running_of, head_name, head_of, head_in, image_files, IsWritable, Holds}
 use Rattle.vbm_store.proofs.Marks.{changed_alike, still_marked, running_moved}
 use Rattle.vbm_store.proofs.Planned.{written_again, library_made}
 use Rattle.vbm_store.proofs.PutMedia.{built_moved}
@@ -86,9 +87,9 @@ module _ (l : Library) (name : Name) (is : IsWritable l) (there : has_name mediu
 
   module _ (files now : Files) (others : SameOthers (named l) name files now) where
     -- the files of the images that are left are the same
-    left_same : AllByRecursion (λ n. image_in files n ≡ image_in now n) (image_files (medium_gone (named l) name))
+    left_same : AllByRecursion (λ n. head_in files n ≡ head_in now n) (image_files (medium_gone (named l) name))
     left_same =
-        let at : (n : Name) → now n ≡ files n → image_in files n ≡ image_in now n =
+        let at : (n : Name) → now n ≡ files n → head_in files n ≡ head_in now n =
         λ n e. ap (λ h. record { name = n; header = h }) (sym (header_frame files now n e)) in
         All-append _ _ _
         (All-of_map medium_entry_name _ (without medium_entry_name name l.media) (All-left l.media is.rules.media))
@@ -96,19 +97,20 @@ module _ (l : Library) (name : Name) (is : IsWritable l) (there : has_name mediu
         (All-map _ _ (λ x e. at (inner_file l.seed x.number) e) (named l).inners others.inners))
       where
         All-left : (ms : List Medium) → AllByRecursion (λ (m : Medium). IsTrue (is_medium_name m.name)) ms
-            → AllByRecursion (λ (m : Medium). image_in files m.name ≡ image_in now m.name) (without medium_entry_name name ms)
+            → AllByRecursion (λ (m : Medium). head_in files m.name ≡ head_in now m.name) (without medium_entry_name name ms)
         All-left ms each = All-join _ _ _
             (λ m named apart. ap (λ h. record { name = m.name; header = h }) (sym (header_frame files now m.name (others.media m.name named apart))))
             (without medium_entry_name name ms) (All-without medium_entry_name _ name ms each) (others-without medium_entry_name name ms)
 
-    gone_headers : (images : List Image) → images ≡ map (image_in files) (image_files (named l))
-        → without image_name name images ≡ map (image_in now) (image_files (named gone_library))
+    gone_headers : (images : List Image) → map head_of images ≡ map (head_in files) (image_files (named l))
+        → map head_of (without image_name name images) ≡ map (head_in now) (image_files (named gone_library))
     gone_headers images are =
-        ap (without image_name name) are
-        ∙ sym (without_map (image_in files) itself image_name (λ n. refl) name (image_files (named l)))
-        ∙ ap (map (image_in files)) (sym gone_files ∙ ap image_files named_gone)
+        without_map head_of image_name head_name (λ x. refl) name images
+        ∙ ap (without head_name name) are
+        ∙ sym (without_map (head_in files) itself head_name (λ n. refl) name (image_files (named l)))
+        ∙ ap (map (head_in files)) (sym gone_files ∙ ap image_files named_gone)
         ∙ map-same _ _ (image_files (medium_gone (named l) name)) left_same
-        ∙ ap (λ n. map (image_in now) (image_files n)) (sym named_gone)
+        ∙ ap (λ n. map (head_in now) (image_files n)) (sym named_gone)
 
 -- ---- the store
 

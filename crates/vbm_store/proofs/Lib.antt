@@ -9,4 +9,5 @@ pub mod Listing
 pub mod Marks
 pub mod PutMedia
 pub mod GoneMedia
-mod Edits
+pub mod Edits
+pub mod Reading

@@ -10,6 +10,8 @@ use Rattle.vbm_ports.specs.Names.{is_name_character, is_medium_name}
 use Rattle.vbm_volume.specs.Image.{image_of}
 use Rattle.vbm_volume.specs.Sectors.{flat_of_base}
 use Rattle.vbm_ids.specs.declared.TheConstants.{NUMBER_LIMIT}
+use Rattle.vbm_image.specs.declared.image.Image.{Image}
+use Rattle.vbm_image.specs.Image.{image_name}
 use Rattle.vbm_modes.specs.declared.Mode.TheVariants.{Normal}
 use Rattle.vbm_intent.specs.declared.change.Change.{Change}
 use Rattle.vbm_intent.specs.declared.log.Log.{Log}
@@ -43,11 +45,10 @@ use Rattle.vbm_standing.proofs.MediaRules.{IsOtherImage, unused-new, put-rules}
 use Rattle.vbm_standing.proofs.MediaStores.{store-with_medium}
 use Rattle.vbm_standing.proofs.MediaWorlds.{SameOthers, others-same, unmerged-into, unused-free, unused-medium, world-with_medium}
 use Rattle.vbm_store.specs.declared.store.Store.{Store}
-use Rattle.vbm_store.specs.declared.store.Image.{Image}
 use Rattle.vbm_store.specs.declared.images.Edit.TheVariants.{Put}
 use Rattle.vbm_store.specs.Edits.{store_after}
 use Rattle.vbm_store.specs.Plans.{library_changes}
-use Rattle.vbm_store.specs.Serves.{serves, changed_of, running_of, image_name, image_in, image_files, IsWritable, Holds}
+use Rattle.vbm_store.specs.Serves.{serves, changed_of, running_of, head_name, head_of, head_in, image_files, IsWritable, Holds}
 use Rattle.vbm_store.proofs.Marks.{changed_alike, forgotten, still_marked, running_moved}
 use Rattle.vbm_store.proofs.Planned.{written_again, library_made}
 use Rattle.vbm_store.proofs.Readiness.{each_image}
@@ -139,18 +140,20 @@ module _ (l : Library) (m : Medium) (next : ℕ) where
       )
       other_image (OfInner n) has = (has, refl)
 
-      same_headers : map (image_in files) (image_files (named l)) ≡ map (image_in now) (image_files (named l))
-      same_headers = map-same _ _ (image_files (named l)) (each_image (named l) is (λ name. image_in files name ≡ image_in now name)
+      same_headers : map (head_in files) (image_files (named l)) ≡ map (head_in now) (image_files (named l))
+      same_headers = map-same _ _ (image_files (named l)) (each_image (named l) is (λ name. head_in files name ≡ head_in now name)
           (λ image has. ap (λ h. record { name = image_file l.seed image; header = h }) (sym (header_frame files now (image_file l.seed image)
           (others-same (named l) m.name is (unused-new (named l) is m.name new) files now others image (other_image image has))))))
 
-      put_headers : (image : Image) (images : List Image) → image ≡ image_in now m.name → images ≡ map (image_in files) (image_files (named l))
-          → put_by image_name image images ≡ map (image_in now) (image_files (named put_library))
+      put_headers : (image : Image) (images : List Image) → head_of image ≡ head_in now m.name
+          → map head_of images ≡ map (head_in files) (image_files (named l))
+          → map head_of (put_by image_name image images) ≡ map (head_in now) (image_files (named put_library))
       put_headers image images same are =
-          (λ i. put_by image_name (same i) (are i))
-          ∙ ap (put_by image_name (image_in now m.name)) same_headers
-          ∙ sym (put_map (image_in now) itself image_name (λ n. refl) m.name (image_files (named l)))
-          ∙ ap (map (image_in now)) (sym put_files)
+          put_map head_of image_name head_name (λ x. refl) image images
+          ∙ (λ i. put_by head_name (same i) (are i))
+          ∙ ap (put_by head_name (head_in now m.name)) same_headers
+          ∙ sym (put_map (head_in now) itself head_name (λ n. refl) m.name (image_files (named l)))
+          ∙ ap (map (head_in now)) (sym put_files)
 
 -- ---- the store
 

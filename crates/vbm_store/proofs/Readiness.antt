@@ -13,6 +13,7 @@ use Rattle.vbm_intent.specs.Changes.{log_name}
 use Rattle.vbm_intent.specs.Log.{IsShut, IsShutInAll, SameBesidesLog, RedoesTo}
 use Rattle.vbm_header.specs.declared.Header.{Header}
 use Rattle.vbm_header.specs.Header.{is_differencing}
+use Rattle.vbm_image.specs.declared.image.Image.{Image}
 use Rattle.vbm_volume.specs.Like.{IsLikeFile}
 use Rattle.vbm_volume.proofs.Likes.{like_refl, like_image}
 use Rattle.vbm_named.specs.Names.{Name, has_name}
@@ -45,12 +46,12 @@ use Rattle.vbm_standing.proofs.LikeChains.{header-like, AreLikeImages}
 use Rattle.vbm_standing.proofs.LooseSlots.{world-loosely}
 use Rattle.vbm_standing.proofs.MachineWorlds.{SameImages}
 use Rattle.vbm_standing.proofs.MediaWorlds.{each-listed}
-use Rattle.vbm_standing.proofs.Stores.{held_if_store, medium_not_log, library_not_log, stands_shut}
+use Rattle.vbm_standing.proofs.Redone.{stands_shut}
+use Rattle.vbm_standing.proofs.Stores.{held_if_store, medium_not_log, library_not_log}
 use Rattle.vbm_store.specs.declared.store.Store.{Store}
-use Rattle.vbm_store.specs.declared.store.Image.{Image}
 use Rattle.vbm_store.specs.Listed.{is_inner_of, is_listed}
 use Rattle.vbm_store.specs.Keeps.{Whole, Listed, Free, KeepsFile, KeepsEach, AllKeep, is_whole, kind_of}
-use Rattle.vbm_store.specs.Serves.{rests, serves, changed_of, running_of, image_in, image_files, IsSoundStore, Holds, FitsDisk, touched, IsReady, StandsLoosely}
+use Rattle.vbm_store.specs.Serves.{rests, serves, changed_of, running_of, head_in, image_files, IsSoundStore, Holds, FitsDisk, touched, IsReady, StandsLoosely}
 
 -- ---- names
 
@@ -247,8 +248,8 @@ module _ (loose : Name → ℕ → Bool) (l : NamedLibrary) (is : IsLibrary l) (
         (All-of_reverse _ l.inners (parents-in l.media l.inner (reverse l.inners) is.inners))) store.inners;
   }
 
-  pub images_left : map (image_in now) (image_files l) ≡ map (image_in files) (image_files l)
-  images_left = map-same _ _ (image_files l) (each_image l is (λ name. image_in now name ≡ image_in files name)
+  pub images_left : map (head_in now) (image_files l) ≡ map (head_in files) (image_files l)
+  images_left = map-same _ _ (image_files l) (each_image l is (λ name. head_in now name ≡ head_in files name)
       (λ image listed. ap (λ h. record { name = image_file l.seed image; header = h }) (same_header image listed)))
 
 module _ (loose : Name → ℕ → Bool) (l : Library) (is : IsLibrary (named l)) (files now : Files) (store : IsStore (named l) files)

@@ -1,9 +1,12 @@
 -- What an open store serves: the world of its library over the files, and what a crash leaves of it.
 use Rattle.std.specs.Prelude.{◌≡◌, ℕ, ◌&&◌, ◌||◌, Bool, true, List, [], ◌++◌, map, length, take, None, Ok}
-use Rattle.std.specs.List.{list_any}
+use Rattle.std.specs.List.{AllByRecursion, list_any}
 use Rattle.std.specs.Str.{bytes_eq}
 use Rattle.vbm_ports.specs.Files.{Files}
 use Rattle.vbm_ports.specs.Disk.{DiskState}
+use Rattle.vbm_header.specs.declared.Header.{Header}
+use Rattle.vbm_image.specs.declared.image.Image.{Image}
+use Rattle.vbm_image.specs.Image.{image_name, IsInForm}
 use Rattle.vbm_machines.specs.declared.Machine.{Machine}
 use Rattle.vbm_machines.specs.Renumbering.{itself}
 use Rattle.vbm_named.specs.Names.{Name, has_name}
@@ -23,14 +26,13 @@ use Rattle.vbm_standing.specs.Faults.{IsStore}
 use Rattle.vbm_standing.specs.SlotSectors.{unsettled_in}
 use Rattle.vbm_standing.specs.Stands.{Stands, library_of}
 use Rattle.vbm_store.specs.declared.store.Store.{Store}
-use Rattle.vbm_store.specs.declared.store.Image.{Image}
 use Rattle.vbm_store.specs.Keeps.{AllKeep, kind_of}
 
 -- the world of a library at rest
 abbrev pub rests : Library → Files → World
 rests l files = world_with none_changed none_runs l files
 
--- the files as they are served, through the images; none has staged entries yet
+-- the files as they are served, through the images, of which nothing is staged yet
 abbrev pub view : List Image → Files → Files
 view images files = files
 
@@ -49,15 +51,24 @@ changed_of e name = has_name itself name e.changed
 abbrev pub serves : Store → Files → World
 serves e files = world_with (changed_of e) (running_of e) e.library (view e.images files)
 
-abbrev pub image_id : Image → List ℕ
-image_id image = image.header.id
+-- what a store knows of a file
+pub record Head : Type 0 where
+  pub name : Name
+  pub header : Header
 
-abbrev pub image_name : Image → Name
-image_name image = image.name
+abbrev pub head_name : Head → Name
+head_name head = head.name
 
--- the image of a file
-abbrev pub image_in : Files → Name → Image
-image_in files name = record { name = name; header = header_in files name }
+abbrev pub head_of : Image → Head
+head_of image = record { name = image.name; header = image.header }
+
+-- the head of a file
+abbrev pub head_in : Files → Name → Head
+head_in files name = record { name = name; header = header_in files name }
+
+-- nothing of an image waits for a commit
+abbrev pub IsUnstaged : Image → Type 0
+IsUnstaged image = image.pending.staged ≡ []
 
 -- the files of a library's images: those of its media, then the inner ones
 abbrev pub image_files : NamedLibrary → List Name
@@ -77,16 +88,18 @@ pub record IsQuiet (l : Library) : Type 0 where
   pub merging : l.merging ≡ []
   pub making : l.making ≡ None
 
--- What holds of a store by itself: a library that may be written, and an image for each of its files.
+-- What holds of a store by itself: a library that may be written, and an image for each of its files, of which nothing is staged.
 pub record IsSoundStore (e : Store) : Type 0 where
   pub library : IsWritable e.library
   pub images : map image_name e.images ≡ image_files (named e.library)
+  pub form : AllByRecursion IsInForm e.images
+  pub unstaged : AllByRecursion IsUnstaged e.images
 
--- the store's library, with every machine off, and its images are those of the files
+-- the store's library, with every machine off, and its images have the heads of the files
 pub record Holds (library : Library) (images : List Image) (files : Files) : Type 0 where
   pub read : library_of files ≡ Ok (library_off library)
   pub store : IsStore (named library) files
-  pub headers : images ≡ map (image_in files) (image_files (named library))
+  pub headers : map head_of images ≡ map (head_in files) (image_files (named library))
 
 -- and a crash leaves the log shut and every file but for sectors that are not settled
 pub record FitsDisk (e : Store) (s : DiskState) : Type 0 where

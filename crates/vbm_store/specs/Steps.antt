@@ -3,6 +3,7 @@ use Rattle.std.specs.Prelude.{◌≡◌, ℕ, List, map, None, Result, Ok, Err, 
 use Rattle.vbm_ports.specs.Files.{Files}
 use Rattle.vbm_ports.specs.Disk.{DiskState}
 use Rattle.vbm_ports.specs.Names.{is_inner_name}
+use Rattle.vbm_image.specs.Image.{image_name}
 use Rattle.vbm_intent.specs.declared.change.Change.{Change}
 use Rattle.vbm_intent.specs.declared.log.Log.{Log}
 use Rattle.vbm_intent.specs.Changes.{changed}
@@ -24,8 +25,8 @@ use Rattle.vbm_store.specs.declared.undone.Undone.{Undone}
 use Rattle.vbm_store.specs.declared.undone.Undone.TheVariants as undone
 use Rattle.vbm_store.specs.Listed.{is_inner_of}
 use Rattle.vbm_store.specs.Kept.{AreKept}
-use Rattle.vbm_store.specs.Serves.{serves, image_name, image_files, IsWritable, IsQuiet, FitsDisk, IsReady}
-use Rattle.vbm_store.specs.Edits.{edited, store_after}
+use Rattle.vbm_store.specs.Serves.{serves, image_files, IsWritable, IsQuiet, FitsDisk, IsReady}
+use Rattle.vbm_store.specs.Edits.{BringsNew, edited, store_after}
 use Rattle.vbm_store.specs.Turns.{Turns}
 
 -- no file with an inner image's name came that the library does not list
@@ -89,7 +90,7 @@ Decides files e c (Err it) = Refuses files e c it
 -- what holds of a turn over any disk
 abbrev pub IsSoundTurn : Store → Turn → Type 0
 IsSoundTurn e turn =
-    IsWritable turn.library × (map image_name (edited turn.edit e.images) ≡ image_files (named turn.library))
+    IsWritable turn.library × (map image_name (edited turn.edit e.images) ≡ image_files (named turn.library)) × BringsNew turn.edit
 
 abbrev pub DecidesSound : Store → Result Decision (Undone Refusal) → Type 0
 DecidesSound e (Ok (decisions.Answer a)) = Unit {0}

@@ -3,43 +3,24 @@
 ghost use Rattle.std.specs.Prelude.{◌≡◌, ◌+◌, ◌≤◌, length, [], ◌∷◌, ◌++◌, OnOk, OnErr, vec_len, vec_capacity};
 ghost use Rattle.vbm_named.specs.Names.{put_by, without};
 ghost use Rattle.vbm_named.specs.Places.{place_for};
-ghost use Rattle.vbm_store.specs.Serves.{image_id, image_name};
+ghost use Rattle.vbm_image.specs.Image.{image_name};
 ghost use Rattle.vbm_store.specs.Edits.{HasRoom, edited};
 
-use crate::store::Image;
 use std::alloc::Global;
 use std::marker::Model;
-use uuid::Uuid;
-use vbm_ids::Identified;
-use vbm_named::Named;
+use vbm_image::Image;
 use vbm_named::names::{is_before, is_same};
-use vbm_ports::{NoMemory, Text};
-
-impl Named for Image {
-    ghost name_of = { image_name };
-
-    fn name(&self) -> &[u8] {
-        self.name.bytes()
-    }
-}
-
-impl Identified for Image {
-    ghost id_of = { image_id };
-
-    fn id(&self) -> Uuid {
-        self.header.id
-    }
-}
+use vbm_ports::{Names, NoMemory, Text};
 
 /// Images, those of the media first, in the order of their names.
 #[derive(Drop)]
 pub struct Images {
-    items: Vec<Image>,
+    items: vbm_image::Images,
 }
 
 impl Model for Images {
     ghost use Rattle.std.specs.Prelude.{List};
-    ghost use Rattle.vbm_store.specs.declared.store.Image.{Image};
+    ghost use Rattle.vbm_image.specs.declared.image.Image.{Image};
 
     ghost Value = { List Image };
 
@@ -52,7 +33,7 @@ impl Images {
         ensures { result ≡ [] }
     {
         Images {
-            items: Vec::new(alloc),
+            items: vbm_image::Images::new(alloc),
         }
     }
 
@@ -61,23 +42,22 @@ impl Images {
         ensures ok { OnOk result (self.new ≡ self.old ++ image ∷ []) }
         ensures err { OnErr result (self.new ≡ self.old) }
     {
-        match self.items.push(image) {
-            Ok(()) => Ok(()),
-            Err(_) => Err(NoMemory),
-        }
+        self.items.push(image)
     }
 
     /// The images as a vector, whose room is known.
     pub(crate) fn into_vec(self) -> Vec<Image>
         ensures { result.items ≡ self }
     {
-        self.items
+        self.items.into_vec()
     }
 
     pub(crate) fn from_vec(items: Vec<Image>) -> Images
         ensures { result ≡ items.items }
     {
-        Images { items }
+        Images {
+            items: vbm_image::Images::from_vec(items),
+        }
     }
 
     /// Lends all images.
@@ -86,6 +66,27 @@ impl Images {
     {
         self.items.as_slice()
     }
+
+    /// Lends the images as a list with room.
+    pub fn as_roomed(&self) -> &vbm_image::Images
+        ensures { result.now.items ≡ self.now }
+    {
+        &self.items
+    }
+
+    /// The images as a list with room.
+    pub fn into_roomed(self) -> vbm_image::Images
+        ensures { result.items ≡ self }
+    {
+        self.items
+    }
+
+    /// The images of a list with room.
+    pub fn of_roomed(items: vbm_image::Images) -> Images
+        ensures { result ≡ items.items }
+    {
+        Images { items }
+    }
 }
 
 /// A change of the images that a store holds.
@@ -93,6 +94,8 @@ impl Images {
 pub enum Edit {
     /// They stay.
     Keep,
+    /// They stay, and the media of these names have not changed since a start.
+    Unchanged(Names),
     /// One more comes, in its place.
     Put(Image),
     /// That of this name goes.
@@ -109,7 +112,7 @@ pub(crate) fn reserve(images: &mut Vec<Image>, edit: &Edit) -> Result<(), NoMemo
             Ok(()) => Ok(()),
             Err(_) => Err(NoMemory),
         },
-        Edit::Keep | Edit::Remove(_) => Ok(()),
+        Edit::Keep | Edit::Unchanged(_) | Edit::Remove(_) => Ok(()),
     }
 }
 
@@ -119,7 +122,7 @@ pub(crate) fn apply(images: &mut Vec<Image>, edit: Edit)
     ensures { images.new.items ≡ edited edit images.old.items }
 {
     match edit {
-        Edit::Keep => {}
+        Edit::Keep | Edit::Unchanged(_) => {}
         Edit::Put(image) => put(images, image),
         Edit::Remove(name) => remove(images, name.bytes()),
     }

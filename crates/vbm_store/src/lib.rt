@@ -3,7 +3,6 @@
 
 mod changed;
 mod decision;
-mod image;
 mod images;
 mod plans;
 mod store;
@@ -12,9 +11,8 @@ mod uses;
 
 pub use changed::Changed;
 pub use decision::{Decision, Turn};
-pub use image::{OpenFault, open_image};
 pub use images::{Edit, Images};
-pub use plans::{plan_image, plan_library};
-pub use store::{Committed, Image, Store};
+pub use plans::{library_plan, plan_image, plan_library};
+pub use store::{Committed, Store};
 pub use undone::Undone;
 pub use uses::{is_frozen, is_in_use};

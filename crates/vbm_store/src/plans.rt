@@ -96,6 +96,16 @@ pub fn plan_library(alloc: Global, plan: &mut Plan, library: &Library) -> Result
     push_cut(alloc, plan, LIBRARY_NAME, len)
 }
 
+/// The plan that writes the library, as it is with every machine off, and no more.
+pub fn library_plan(alloc: Global, library: &Library) -> Result<Plan, NoMemory>
+    requires library { IsWritable library.now }
+    ensures { IfOk result (λ plan. plan.changes ≡ library_changes library.now) }
+{
+    let mut plan = Plan::new(alloc);
+    plan_library(alloc, &mut plan, library)?;
+    Ok(plan)
+}
+
 // The header, zeros up to the block map, and a map of free blocks.
 fn plan_front(alloc: Global, plan: &mut Plan, name: &[u8], header: &Header) -> Result<(), NoMemory>
     requires name { IsTrue (is_medium_name name.now) }

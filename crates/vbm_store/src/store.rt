@@ -12,17 +12,10 @@ ghost use Rattle.vbm_store.specs.Commits.{HandsBack, Commits, OnNoMemory, commit
 
 use crate::changed::Changed;
 use crate::images::{Edit, Images, apply, reserve};
-use vbm_header::Header;
+use vbm_image::Image;
 use vbm_intent::{Log, Plan};
-use vbm_ports::{Disk, Failed, Text};
+use vbm_ports::{Disk, Failed};
 use vbm_registry::Library;
-
-/// An image file, with its header as it is in the file.
-#[derive(Drop)]
-pub struct Image {
-    pub name: Text,
-    pub header: Header,
-}
 
 /// A store that is open.
 #[derive(Drop)]

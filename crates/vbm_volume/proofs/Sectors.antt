@@ -1,4 +1,4 @@
--- A sector, from the word of its block and the data at its position.
+-- The word of a block as it is read, and the data at its position.
 use Rattle.std.proofs.Common.{◌≡◌, ℕ, zero, suc, ◌+◌, ◌-◌, ◌*◌, ◌/◌, ◌%◌, ◌^◌, ◌<◌, ◌≤◌, Bool, true, false, ◌&&◌, leb, List, [], ◌∷◌, ◌++◌, length, take, drop, replicate, min, Ok, refl, sym, ap, ◌∙◌, arith, inl, inr}
 use Rattle.std.specs.List.{filter, list_all}
 use Rattle.std.proofs.lemmas.Bool.{cases_lt, leb-true, lt-ltb, le-ltb}
@@ -11,7 +11,6 @@ use Rattle.vbm_header.specs.Field.{number_at}
 use Rattle.vbm_header.proofs.Fields.{number_at-append, number_at-take, number_at-drop}
 use Rattle.vbm_header.proofs.Headers.{accepted, all_hold}
 use Rattle.vbm_volume.specs.Image.{image_of, map_conditions, positions, words_at, is_position}
-use Rattle.vbm_volume.specs.Sectors.{base_sector}
 use Rattle.vbm_volume.proofs.Images.{image_of-ok}
 
 -- a field of what was read, whatever follows it
@@ -31,14 +30,6 @@ number_at-read f old mid new at n o w read kept inside fits =
     let front : take n mid ≡ piece f at (length old) = ap (take n) read.buffer ∙ take_at (piece f at (length old)) (drop n old) n (sym read.count) in
     ap (λ xs. number_at xs o w) (sym (take-append-drop n new) ∙ ap (λ xs. xs ++ drop n new) (kept ∙ front))
     ∙ number_at-piece f (drop n new) at (length old) o w inside fits
-
--- bytes that were read and are all there
-pub bytes_read : (f old new : List ℕ) (at n w : ℕ) → Reads f at old new n → length old ≡ w → at + w ≤ length f → new ≡ take w (drop at f)
-bytes_read f old new at n w read room fits =
-    let size : length (drop at f) ≡ length f - at = length-drop at f in
-    let all : n ≡ length old = read.count ∙ length-take-le (length old) (drop at f) (omega arith) in
-    read.buffer ∙ ap (λ xs. take (length old) (drop at f) ++ xs) (drop_all n old (omega arith)) ∙ append-nil (take (length old) (drop at f))
-    ∙ ap (λ m. take m (drop at f)) room
 
 both : (a b : Bool) → (a && b) ≡ true → (a ≡ true) × (b ≡ true)
 both true b h = (refl, h)
@@ -67,16 +58,6 @@ data_within f h b e lt is =
     let all = all_hold (map_conditions (positions f h) h (length f)) (image_of-ok f h e).1 in
     leb-true _ _ (at_block (λ p. leb (h.off_data + (p + 1) * 2 ^ 20) (length f)) f h.off_blocks h.blocks b all.1.0 lt (lt-ltb _ _ is))
 
-pub base_sector-at : (f : List ℕ) (h : Header) (i w : ℕ) → w ≡ number_at f (h.off_blocks + 4 * (i / 2048)) 4 → w < 0xFFFFFFFE
-    → take 512 (drop (h.off_data + w * 2 ^ 20 + i % 2048 * 512) f) ≡ base_sector f h i
-unfolding base_sector
-base_sector-at f h i w here is = let position : is_position w ≡ true = lt-ltb _ _ is in rw (← here, position) refl
-
-pub base_sector-zeros : (f : List ℕ) (h : Header) (i w : ℕ) → w ≡ number_at f (h.off_blocks + 4 * (i / 2048)) 4 → 0xFFFFFFFE ≤ w
-    → replicate 512 0 ≡ base_sector f h i
-unfolding base_sector
-base_sector-zeros f h i w here other = let none : is_position w ≡ false = le-ltb _ _ other in rw (← here, none) refl
-
 -- the word of a sector's block lies in the map
 pub word_within : (f : List ℕ) (h : Header) (i : ℕ) → image_of f ≡ Ok h → i < h.capacity / 512
     → (i / 2048 < h.blocks) × (h.off_blocks + 4 * (i / 2048) + 4 ≤ length f)
@@ -85,11 +66,3 @@ word_within f h i e lt =
     let enough : h.capacity ≤ h.blocks * 1048576 = facts.enough in
     let block : i / 2048 < h.blocks = omega arith in
     (block, omega (arith, facts.map_end))
-
--- the sector's data lies in the file
-pub sector_within : (f : List ℕ) (h : Header) (i w : ℕ) → image_of f ≡ Ok h → i < h.capacity / 512
-    → w ≡ number_at f (h.off_blocks + 4 * (i / 2048)) 4 → w < 0xFFFFFFFE → h.off_data + w * 2 ^ 20 + i % 2048 * 512 + 512 ≤ length f
-sector_within f h i w e lt here is =
-    let within = data_within f h (i / 2048) e (word_within f h i e lt).0 (rw (← here) is) in
-    let room : h.off_data + (w + 1) * 1048576 ≤ length f = rw here within in
-    omega arith

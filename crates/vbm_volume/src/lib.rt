@@ -12,7 +12,7 @@ mod tally;
 
 pub use fault::MapFault;
 pub use flat::{Flat, Sector, Variant, Volume};
-pub use image::{read_image, read_sector};
+pub use image::read_image;
 pub use made::{header_over, making_header, new_header};
 pub use map::{read_map, read_words};
 pub use marks::Marks;

@@ -8,7 +8,7 @@ returns-in-Ok-clause-opens g c = λ told.
     ((g.met.D.Disk.coherent c.start.new.disk).read_is_image told) (c.requires.holds told)
 
 pub returns-in-Ok-clause-sound : goal.returns-in-Ok-clause-sound
-returns-in-Ok-clause-sound g c = sound_if_read _ c.requires.rules c.requires.names
+returns-in-Ok-clause-sound g c = sound_if_read _ c.requires.rules c.requires.names c.requires.new
 
 pub returns-in-Ok-clause-any_moment : goal.returns-in-Ok-clause-any_moment
 returns-in-Ok-clause-any_moment g c = λ told.

@@ -1,7 +1,7 @@
 use Rattle.std.proofs.Common.{sym, ap, ◌∙◌}
 use Rattle.std.specs.Option.{option_copied}
 use Rattle.vbm_named.specs.Names.{find_by}
-use Rattle.vbm_store.specs.Serves.{image_name}
+use Rattle.vbm_image.specs.Image.{image_name}
 use Rattle.vbm_media.proofs.Asks.{no_medium, shows_none, shows}
 use Rattle.vbm_media.proofs.ask.answer_show.Goals as goal
 

@@ -12,4 +12,5 @@ returns-clause-sound c =
     rw (c.in_ok-library.ensures.library, c.in_ok-library.ensures.name) (
       closed_writable e.library c.args.name.now c.requires.sound.library c.requires.can,
       images_less e c.args.name.now c.requires.sound c.requires.can,
+      tt,
     )

@@ -1,7 +1,7 @@
 use Rattle.std.proofs.Common.{◌≡◌, ℕ, ◌<◌, false, get_or}
 use Rattle.vbm_named.specs.Names.{is_before}
-use Rattle.vbm_store.specs.declared.store.Image.{Image}
-use Rattle.vbm_store.specs.Serves.{image_name}
+use Rattle.vbm_image.specs.declared.image.Image.{Image}
+use Rattle.vbm_image.specs.Image.{image_name}
 use Rattle.vbm_store.proofs.images.place_of.Given as goal
 
 -- none so far is behind the name

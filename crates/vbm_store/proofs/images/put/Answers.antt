@@ -1,7 +1,7 @@
 use Rattle.std.proofs.Common.{vec_len, vec_capacity, sym, ap, ◌∙◌}
 use Rattle.std.specs.List.{insert}
 use Rattle.vbm_named.specs.Places.{place_for}
-use Rattle.vbm_store.specs.Serves.{image_name}
+use Rattle.vbm_image.specs.Image.{image_name}
 use Rattle.vbm_store.proofs.Edits.{put_there, put_in}
 use Rattle.vbm_store.proofs.images.put.Goals as goal
 

@@ -1,7 +1,7 @@
 use Rattle.std.proofs.Common.{rules, not}
 use Rattle.std.specs.Str.{bytes_eq}
 use Rattle.std.proofs.lemmas.Fn.{filter_same}
-use Rattle.vbm_store.specs.declared.store.Image.{Image}
+use Rattle.vbm_image.specs.declared.image.Image.{Image}
 use Rattle.vbm_store.proofs.images.remove.Goals as goal
 
 pub returns : goal.returns

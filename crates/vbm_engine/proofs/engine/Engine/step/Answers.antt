@@ -32,7 +32,7 @@ returns-in-Done-clause-sound g c =
     let turn = c.in-Ok-Turn.turn in
     let store = subst (λ e. HandsBack e turn.library turn.edit (Done c.in-Done.store)) c.decide.ensures.store c.in-Done.ensures.store in
     let sound = subst (λ d. DecidesSound c.args.self.store (Ok d)) c.in-Ok-Turn.field-0-is c.in-Ok-Turn.ensures.sound in
-    sound_turn c.args.self.store turn sound c.in-Done.store store
+    sound_turn c.args.self.store turn c.requires.sound sound c.in-Done.store store
 
 pub returns-in-Done-clause-any_moment : goal.returns-in-Done-clause-any_moment
 returns-in-Done-clause-any_moment g c told u ready =

@@ -1,5 +1,5 @@
 use Rattle.std.proofs.Common.{List, length, length-take, ap, arith}
-use Rattle.vbm_store.specs.declared.store.Image.{Image}
+use Rattle.vbm_image.specs.declared.image.Image.{Image}
 use Rattle.vbm_store.proofs.Listing.{enough_images}
 use Rattle.vbm_store.proofs.store.Store.media_images.Goals as goal
 

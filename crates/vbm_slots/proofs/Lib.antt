@@ -1,0 +1,17 @@
+mod Marks
+mod Written
+mod MachinesMade
+mod MachinesGone
+mod MachinesSeen
+mod OtherModes
+mod Direct
+mod Renewed
+mod SlotsSeen
+mod Attaches
+mod Detaches
+mod Forgotten
+mod LockedPlaces
+mod Locks
+mod MachinesMarked
+mod PowerOffs
+mod Starts

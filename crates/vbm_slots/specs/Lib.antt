@@ -1,0 +1,4 @@
+pub mod Machines
+pub mod Modes
+pub mod Slots
+pub mod Running
