@@ -82,7 +82,7 @@ class Definitions:
         for part in re.split(r" ∷ | \+\+ ", re.sub(r"∷ \(?(\w+) \+\+ ", r"∷ \1... ∷ ", body)):
             part = part.strip()
             words = part.strip("()").split()
-            if part == "[]":
+            if part.strip("()") == "[]":
                 continue
             if part.endswith("..."):
                 choices = [(WORDS,)]
@@ -98,8 +98,10 @@ class Definitions:
 
 
 def served():
-    """The patterns of the commands that are served."""
-    return [patterns[0] for patterns, body in Definitions("crates", "vbm_served", "specs", "Served.antt").equations["is_served"] if body == "true"]
+    """The patterns of the commands that are served, by themselves or as a kind of command."""
+    equations = Definitions("crates", "vbm_served", "specs", "Served.antt").equations
+    kinds = [name for name in equations if name.startswith("is_")]
+    return [patterns[0] for name in kinds for patterns, body in equations[name] if body == "true"]
 
 
 def command_forms(definitions):
